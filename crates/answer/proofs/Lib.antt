@@ -1,0 +1,3 @@
+pub mod FirstHigh
+pub mod Orders
+pub mod OneAnswer

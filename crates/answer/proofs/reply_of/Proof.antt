@@ -1,0 +1,47 @@
+-- `answer::reply_of` meets its contract: each arm is a case of the definition. Assumes nothing.
+use mathlib.Core.Path.{_∙_, ap, sym}
+use Rattle.answer.specs.Reply.{reply}
+use borrow.Author.Needs.{needs}
+use Rattle.answer.proofs.reply_of.Statement.{statement}
+use Rattle.answer.proofs.reply_of.Tie as tie
+
+enum-told : tie.Need-enum-told
+enum-told c = search needs
+
+tell-requires : tie.Need-tell-requires
+tell-requires c κs = search needs
+
+enum-known-answer : tie.Need-enum-known-answer
+enum-known-answer c = search needs
+
+tell-requires-2 : tie.Need-tell-requires-2
+tell-requires-2 c κs = search needs
+
+enum-known-answer-2 : tie.Need-enum-known-answer-2
+enum-known-answer-2 c = search needs
+
+tell-refusal-requires : tie.Need-tell-refusal-requires
+tell-refusal-requires c κs = search needs
+
+returns : tie.Need-returns
+returns c = c .tell .ensures ∙ ap reply (sym (c .before .enum-told .given .1))
+
+returns-2 : tie.Need-returns-2
+returns-2 c = c .tell2 .ensures ∙ ap reply (sym (c .before .before .answer .given .1))
+
+returns-3 : tie.Need-returns-3
+returns-3 c = c .tell-refusal .ensures ∙ ap reply (sym (c .before .before .answer2 .given .1))
+
+pub reply-of-spec : {M : Type 1} → statement M
+reply-of-spec =
+    tie.close
+    (tie.spec
+    enum-told
+    tell-requires
+    enum-known-answer
+    tell-requires-2
+    enum-known-answer-2
+    tell-refusal-requires
+    returns
+    returns-2
+    returns-3)

@@ -1,0 +1,5 @@
+pub mod Numbers
+pub mod Reply
+pub mod Order
+pub mod Checks
+pub mod Contract

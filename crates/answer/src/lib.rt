@@ -1,0 +1,168 @@
+// What a call can answer, and the checks that every call shares.
+ghost use mathlib.Core.Path.{_≡_};
+ghost use Prim.Native.Nat.{_<_};
+ghost use Rattle.answer.specs.Order.{or};
+ghost use Rattle.answer.specs.Checks.{refuse-if, empty, large, mismatch, modulus, first-high, coefficient, room, divisor};
+ghost use Rattle.answer.specs.Reply.{refusal-reply, reply};
+
+// The refusals of document 01's table by name.
+pub enum Case {
+    Empty,
+    Large,
+    Mismatch,
+    Modulus,
+    Factors,
+    Coefficient,
+    Room,
+    Divisor,
+}
+
+// A refusal, with the ring and the place that it tells; 0 where it tells none.
+pub struct Refusal {
+    pub case: Case,
+    pub ring: u32,
+    pub place: usize,
+}
+
+// What a check finds: nothing, or a refusal.
+pub enum Check {
+    Passed,
+    Refused(Refusal),
+}
+
+// The answer of a call that fills an output; the output stands beside it.
+pub enum Answer {
+    Done,
+    Singular { ring: u32, prime: u32 },
+    Refused(Refusal),
+}
+
+// An answer in the paper's numbers, for C and for print.
+#[repr(C)]
+pub struct Reply {
+    pub number: u32,
+    pub ring: u32,
+    pub place: usize,
+    pub prime: u32,
+}
+
+impl Check {
+    // The first of two checks that finds something.
+    pub fn or(self, next: Check) -> Check
+        ensures { λ r. ⌜ r ≡ or self next ⌝ }
+    {
+        match self {
+            Check::Passed => next,
+            Check::Refused(refusal) => Check::Refused(refusal),
+        }
+    }
+}
+
+// A check that refuses where the test holds.
+fn refuse_if(test: bool, case: Case, ring: u32, place: usize) -> Check
+    ensures { λ r. ⌜ r ≡ refuse-if test case ring place ⌝ }
+{
+    if test {
+        return Check::Refused(Refusal { case, ring, place });
+    }
+    Check::Passed
+}
+
+pub fn check_empty(n: usize) -> Check
+    ensures { λ r. ⌜ r ≡ empty n ⌝ }
+{
+    refuse_if(n == 0, Case::Empty, 0, 0)
+}
+
+pub fn check_large(n: usize, most: usize) -> Check
+    ensures { λ r. ⌜ r ≡ large most n ⌝ }
+{
+    refuse_if(most < n, Case::Large, 0, 0)
+}
+
+pub fn check_mismatch(n: usize, len: usize, ring: u32) -> Check
+    ensures { λ r. ⌜ r ≡ mismatch n ring len ⌝ }
+{
+    refuse_if(len != n, Case::Mismatch, ring, 0)
+}
+
+pub fn check_modulus(m: u32, least: u32, most: u32) -> Check
+    ensures { λ r. ⌜ r ≡ modulus least most m ⌝ }
+{
+    refuse_if(m < least, Case::Modulus, 0, 0).or(refuse_if(most < m, Case::Modulus, 0, 0))
+}
+
+// The place of the first entry that is m or more; the length where there is none.
+fn first_high(a: &[u32], m: u32) -> usize
+    ensures { λ r. ⌜ r ≡ first-high m (now (a .entry)) ⌝ }
+{
+    let mut i = 0;
+    while i < a.len() {
+        if m <= a[i] {
+            return i;
+        }
+        i += 1;
+    }
+    i
+}
+
+pub fn check_coefficient(a: &[u32], m: u32, ring: u32) -> Check
+    ensures { λ r. ⌜ r ≡ coefficient m ring (now (a .entry)) ⌝ }
+{
+    let place = first_high(a, m);
+    refuse_if(place < a.len(), Case::Coefficient, ring, place)
+}
+
+pub fn check_room(n: usize, len: usize) -> Check
+    ensures { λ r. ⌜ r ≡ room n len ⌝ }
+{
+    refuse_if(len != n, Case::Room, 0, 0)
+}
+
+pub fn check_divisor(d: usize, n: usize, least: usize) -> Check
+    requires { ⌜ 0 < least ⌝ }
+    ensures { λ r. ⌜ r ≡ divisor least n d ⌝ }
+{
+    if d < least {
+        return refuse_if(true, Case::Divisor, 0, 0);
+    }
+    refuse_if(n % d != 0, Case::Divisor, 0, 0)
+}
+
+fn tell(number: u32, ring: u32, place: usize, prime: u32) -> Reply
+    ensures { λ r. ⌜ r ≡ record { number = number; ring = ring; place = place; prime = prime } ⌝ }
+{
+    Reply {
+        number,
+        ring,
+        place,
+        prime,
+    }
+}
+
+fn tell_refusal(r: Refusal) -> Reply
+    ensures { λ said. ⌜ said ≡ refusal-reply r ⌝ }
+{
+    let case = r.case;
+    match case {
+        Case::Empty => tell(1, 0, 0, 0),
+        Case::Large => tell(2, 0, 0, 0),
+        Case::Mismatch => tell(3, r.ring, 0, 0),
+        Case::Modulus => tell(4, 0, 0, 0),
+        Case::Factors => tell(5, 0, 0, 0),
+        Case::Coefficient => tell(6, r.ring, r.place, 0),
+        Case::Room => tell(7, 0, 0, 0),
+        Case::Divisor => tell(8, 0, 0, 0),
+    }
+}
+
+// The answer in the paper's numbers.
+pub fn reply_of(answer: Answer) -> Reply
+    ensures { λ r. ⌜ r ≡ reply answer ⌝ }
+{
+    match answer {
+        Answer::Done => tell(0, 0, 0, 0),
+        Answer::Singular { ring, prime } => tell(9, ring, 0, prime),
+        Answer::Refused(refusal) => tell_refusal(refusal),
+    }
+}

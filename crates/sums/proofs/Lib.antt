@@ -1,0 +1,5 @@
+-- Remainders of sums and products; sums; tables; a loop that fills a slice from the front.
+pub mod Remainders
+pub mod Sums
+pub mod Tables
+pub mod Fill

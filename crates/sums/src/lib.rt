@@ -1,0 +1,1 @@
+// Sums and tables over an index: definitions and laws only.
