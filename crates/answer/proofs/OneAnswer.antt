@@ -1,13 +1,15 @@
 -- A contract of the form `Meets` allows one answer and one content of the output, wherever what it says of Done and of Singular is settled:
 -- the first check that finds something decides between a refusal and the rest. Assumes nothing.
 use Prim.Native.Nat.{ℕ}
-use mathlib.Core.Path.{_≡_, sym, _∙_}
+use mathlib.Core.Path.{_≡_, sym, ap, _∙_}
 use mathlib.Core.List.{List}
 use native.Mathlib.Omega.{arith}
 use Rattle.answer.specs.Order.{first}
+use Rattle.answer.specs.Reply.{reply, Replied}
 use Rattle.answer.specs.Contract.{Meets, Fills}
 use Rattle.answer.specs.declared.Check.{Check}
 use Rattle.answer.specs.declared.Check.the-variants as check
+use Rattle.answer.specs.declared.Reply.{Reply}
 use Rattle.answer.specs.declared.Answer.{Answer}
 use Rattle.answer.specs.declared.Answer.the-variants.{Done, Singular, Refused}
 
@@ -28,3 +30,8 @@ module _ (checks : List Check) (done : List ℕ → Type 0) (singular : ℕ → 
 
 pub one-fill : (checks : List Check) (result old : List ℕ) (a b : Answer) (x y : List ℕ) → Fills checks result old a x → Fills checks result old b y → (a ≡ b) × (x ≡ y)
 one-fill checks result old = one-answer checks _ _ old (λ e x y h k. h ∙ sym k) (λ e x y r p h k. k) (λ e x y r p r′ p′ h k. absurd h)
+
+-- In numbers too.
+pub one-reply : (Fits : Answer → List ℕ → Type 0) {r r′ : Reply} {x y : List ℕ} → ((a b : Answer) → Fits a x → Fits b y → (a ≡ b) × (x ≡ y))
+    → Replied (λ a. Fits a x) r → Replied (λ a. Fits a y) r′ → (r ≡ r′) × (x ≡ y)
+one-reply Fits one h k = let e = one (h .answer) (k .answer) (h .fits) (k .fits) in (h .is ∙ ap reply (e .0) ∙ sym (k .is), e .1)

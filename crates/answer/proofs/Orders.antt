@@ -1,24 +1,24 @@
 -- What a call that no check refuses has been given: `order` lets only legal rings, moduli and lengths pass, and what is legal passes.
 -- Each check passes exactly where its test fails; a list of checks passes exactly where each does. Assumes nothing.
-use Prim.Native.Nat.{ℕ, zero, suc, _%_, _≤_, _<_, _∣_}
+use Prim.Native.Nat.{ℕ, suc, _%_, _≤_, _<_, _∣_}
 use mathlib.Core.Path.{_≡_, refl, sym, ap, _∙_}
 use mathlib.Core.Bool.{Bool, true, false, not, _||_}
 use mathlib.Core.List.{List, [], _∷_, _++_}
 use native.Mathlib.Omega.{arith}
 use native.Mathlib.Nat.{dvd-of-mod-eq-zero}
-use borrow.Author.Tests.{ltb-false, eqb-false, eqb-true, not-true, not-false}
+use borrow.Author.Tests.{ltb-false, eqb-false, eqb-true, not-false}
 use lib.Dec.{eqb, ltb}
 use lib.ListN.{length}
-use Rattle.sums.specs.Table.{at}
 use Rattle.ring.specs.Limits.{most-entries, least-modulus, most-modulus}
 use Rattle.ring.specs.Ring.{Ring}
-use Rattle.answer.specs.Checks.{refuse-if, empty, large, modulus, first-high, divisor, room}
+use Rattle.answer.specs.Checks.{refuse-if, empty, large, mismatch, modulus, first-high, coefficient, divisor, room}
 use Rattle.answer.specs.Order.{or, first, mismatches, coefficients, order}
 use Rattle.answer.specs.declared.Case.{Case}
 use Rattle.answer.specs.declared.Case.the-variants.{Mismatch, Coefficient, Room, Divisor}
+use Rattle.answer.specs.declared.Refusal.{Refusal}
 use Rattle.answer.specs.declared.Check.{Check}
 use Rattle.answer.specs.declared.Check.the-variants.{Passed, Refused}
-use Rattle.answer.proofs.FirstHigh.{high-before, high-le}
+use Rattle.answer.proofs.FirstHigh.{high-before}
 
 -- ---- lists of checks
 
@@ -34,7 +34,14 @@ pub first-append : (k l : List Check) → first (k ++ l) ≡ or (first k) (first
 first-append [] l = refl
 first-append (c ∷ k) l = rw (first-append k l) (sym (or-assoc c (first k) (first l)))
 
-both : (c d : Check) → or c d ≡ Passed → (c ≡ Passed) × (d ≡ Passed)
+-- A match on what the first checks found.
+pub or-go-on : {found before after r : Check} → found ≡ before → found ≡ Passed → r ≡ after → r ≡ or before after
+or-go-on {after = after} e p h = h ∙ ap (λ (x : Check). or x after) (sym p ∙ e)
+
+pub or-stop : {found before : Check} {r : Refusal} (after : Check) → found ≡ before → found ≡ Refused r → Refused r ≡ or before after
+or-stop after e p = ap (λ (x : Check). or x after) (sym p ∙ e)
+
+pub both : (c d : Check) → or c d ≡ Passed → (c ≡ Passed) × (d ≡ Passed)
 both Passed d e = (refl, e)
 both (Refused r) d e = absurd (let z : _≡_ {A = ℕ} 0 1 = cc in omega arith)
 
@@ -96,6 +103,27 @@ coefficients-pass n m r (a ∷ l) h e =
 
 nonzero : (n : ℕ) → eqb n 0 ≡ false → 0 < n
 nonzero n e = let h = eqb-false n 0 e in omega arith
+
+-- The sizes, the modulus and the factor list, then the entries: one ring, and two.
+pub order-ring : (a : List ℕ) (m : ℕ) (factors : Check)
+    → or (or (or (or (empty (length a)) (large most-entries (length a))) (modulus least-modulus most-modulus m)) factors) (coefficient m 1 a) ≡ first (order a [] m factors [])
+unfolding order
+order-ring a m factors = simp (or-assoc, or-passed)
+
+pub order-rings : (a b : List ℕ) (m : ℕ) (factors : Check)
+    → or (or (or (or (or (empty (length a)) (large most-entries (length a))) (mismatch (length a) 2 (length b))) (modulus least-modulus most-modulus m)) factors) (or (coefficient m 1 a) (coefficient m 2 b))
+    ≡ first (order a (b ∷ []) m factors [])
+unfolding order
+order-rings a b m factors = simp (or-assoc, or-passed)
+
+-- One and two checks after the entries.
+pub order-one : (a : List ℕ) (others : List (List ℕ)) (m : ℕ) (factors c : Check) → or (first (order a others m factors [])) c ≡ first (order a others m factors (c ∷ []))
+unfolding order
+order-one a others m factors c = simp (first-append, or-assoc, or-passed)
+
+pub order-two : (a : List ℕ) (others : List (List ℕ)) (m : ℕ) (factors c d : Check) → or (or (first (order a others m factors [])) c) d ≡ first (order a others m factors (c ∷ d ∷ []))
+unfolding order
+order-two a others m factors c d = simp (first-append, or-assoc, or-passed)
 
 -- A call that no check refuses.
 pub legal : (a : List ℕ) (others : List (List ℕ)) (m : ℕ) (factors : Check) (rest : List Check) → first (order a others m factors rest) ≡ Passed

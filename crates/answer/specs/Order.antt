@@ -27,8 +27,12 @@ abbrev pub coefficients : ℕ → ℕ → List (List ℕ) → List Check
 coefficients m r [] = []
 coefficients m r (a ∷ l) = coefficient m r a ∷ coefficients m (suc r) l
 
--- The order of every call: ring 1 is a, the others follow it; `factors` is what the check of the factor list finds, Passed in a call that has
--- no list; `rest` is 7 and 8 as the call has them.
+-- What the check of the factor list finds in a call that has no list.
+abbrev pub no-list : Check
+no-list = Passed
+
+-- The order of every call: ring 1 is a, the others follow it; `factors` is what the check of the factor list finds; `rest` is 7 and 8 as the
+-- call has them.
 unfoldable pub order : List ℕ → List (List ℕ) → ℕ → Check → List Check → List Check
 order a others m factors rest =
     empty (length a)

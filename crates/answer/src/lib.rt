@@ -1,7 +1,11 @@
 // What a call can answer, and the checks that every call shares.
+use ring::LEAST_MODULUS;
+use ring::MOST_ENTRIES;
+use ring::MOST_MODULUS;
 ghost use mathlib.Core.Path.{_≡_};
+ghost use mathlib.Core.List.{[], _∷_};
 ghost use Prim.Native.Nat.{_<_};
-ghost use Rattle.answer.specs.Order.{or};
+ghost use Rattle.answer.specs.Order.{or, first, order};
 ghost use Rattle.answer.specs.Checks.{refuse-if, empty, large, mismatch, modulus, first-high, coefficient, room, divisor};
 ghost use Rattle.answer.specs.Reply.{refusal-reply, reply};
 
@@ -20,7 +24,7 @@ pub enum Case {
 // A refusal, with the ring and the place that it tells; 0 where it tells none.
 pub struct Refusal {
     pub case: Case,
-    pub ring: u32,
+    pub ring: usize,
     pub place: usize,
 }
 
@@ -33,7 +37,7 @@ pub enum Check {
 // The answer of a call that fills an output; the output stands beside it.
 pub enum Answer {
     Done,
-    Singular { ring: u32, prime: u32 },
+    Singular { ring: usize, prime: u32 },
     Refused(Refusal),
 }
 
@@ -41,9 +45,9 @@ pub enum Answer {
 #[repr(C)]
 pub struct Reply {
     pub number: u32,
-    pub ring: u32,
-    pub place: usize,
     pub prime: u32,
+    pub ring: usize,
+    pub place: usize,
 }
 
 impl Check {
@@ -59,7 +63,7 @@ impl Check {
 }
 
 // A check that refuses where the test holds.
-fn refuse_if(test: bool, case: Case, ring: u32, place: usize) -> Check
+fn refuse_if(test: bool, case: Case, ring: usize, place: usize) -> Check
     ensures { λ r. ⌜ r ≡ refuse-if test case ring place ⌝ }
 {
     if test {
@@ -80,7 +84,7 @@ pub fn check_large(n: usize, most: usize) -> Check
     refuse_if(most < n, Case::Large, 0, 0)
 }
 
-pub fn check_mismatch(n: usize, len: usize, ring: u32) -> Check
+pub fn check_mismatch(n: usize, len: usize, ring: usize) -> Check
     ensures { λ r. ⌜ r ≡ mismatch n ring len ⌝ }
 {
     refuse_if(len != n, Case::Mismatch, ring, 0)
@@ -106,7 +110,7 @@ fn first_high(a: &[u32], m: u32) -> usize
     i
 }
 
-pub fn check_coefficient(a: &[u32], m: u32, ring: u32) -> Check
+pub fn check_coefficient(a: &[u32], m: u32, ring: usize) -> Check
     ensures { λ r. ⌜ r ≡ coefficient m ring (now (a .entry)) ⌝ }
 {
     let place = first_high(a, m);
@@ -129,14 +133,45 @@ pub fn check_divisor(d: usize, n: usize, least: usize) -> Check
     refuse_if(n % d != 0, Case::Divisor, 0, 0)
 }
 
-fn tell(number: u32, ring: u32, place: usize, prime: u32) -> Reply
-    ensures { λ r. ⌜ r ≡ record { number = number; ring = ring; place = place; prime = prime } ⌝ }
+// Checks 1 to 6 of a call with one ring. `factors` is what the check of the factor list found: Passed where the call has none.
+pub fn check_ring(a: &[u32], m: u32, factors: Check) -> Check
+    ensures { λ r. ⌜ r ≡ first (order (now (a .entry)) [] m factors []) ⌝ }
+{
+    let n = a.len();
+    let shape = check_empty(n)
+        .or(check_large(n, MOST_ENTRIES))
+        .or(check_modulus(m, LEAST_MODULUS, MOST_MODULUS))
+        .or(factors);
+    match shape {
+        Check::Passed => check_coefficient(a, m, 1),
+        Check::Refused(refusal) => Check::Refused(refusal),
+    }
+}
+
+// The same of a call with two rings.
+pub fn check_rings(a: &[u32], b: &[u32], m: u32, factors: Check) -> Check
+    ensures { λ r. ⌜ r ≡ first (order (now (a .entry)) (now (b .entry) ∷ []) m factors []) ⌝ }
+{
+    let n = a.len();
+    let shape = check_empty(n)
+        .or(check_large(n, MOST_ENTRIES))
+        .or(check_mismatch(n, b.len(), 2))
+        .or(check_modulus(m, LEAST_MODULUS, MOST_MODULUS))
+        .or(factors);
+    match shape {
+        Check::Passed => check_coefficient(a, m, 1).or(check_coefficient(b, m, 2)),
+        Check::Refused(refusal) => Check::Refused(refusal),
+    }
+}
+
+fn tell(number: u32, ring: usize, place: usize, prime: u32) -> Reply
+    ensures { λ r. ⌜ r ≡ record { number = number; prime = prime; ring = ring; place = place } ⌝ }
 {
     Reply {
         number,
+        prime,
         ring,
         place,
-        prime,
     }
 }
 

@@ -1,0 +1,42 @@
+-- `calls::fold` meets its contract: what its check finds decides, and where it finds nothing the output holds the sums.
+-- Assumes nothing.
+use mathlib.Core.Path.{refl, sym, _∙_}
+use Rattle.calls.proofs.Legal.{fold-ready}
+use borrow.Author.Needs.{needs}
+use Rattle.calls.proofs.fold.Statement.{statement}
+use Rattle.calls.proofs.fold.Tie as tie
+
+check-fold-requires : tie.Need-check-fold-requires
+check-fold-requires c κs = search needs
+
+enum-told : tie.Need-enum-told
+enum-told c = search needs
+
+sums-onto-requires : tie.Need-sums-onto-requires
+sums-onto-requires c κs = fold-ready _ _ _ (sym (c .before .before .before .check-fold .ensures) ∙ c .before .enum-told .given .1)
+
+enum-known-check : tie.Need-enum-known-check
+enum-known-check c = search needs
+
+same-length : tie.Need-same-length
+same-length c = search needs
+
+returns : tie.Need-returns
+returns c = record {
+  meets = (sym (c .before .before .before .before .before .before .check-fold .ensures) ∙ c .before .before .before .before .enum-told .given .1, c .before .before .sums-onto .ensures);
+}
+
+returns-2 : tie.Need-returns-2
+returns-2 c = record { meets = (sym (c .before .before .before .check-fold .ensures) ∙ c .before .check .given .1, refl) }
+
+pub fold-spec : {M : Type 1} → statement M
+fold-spec =
+    tie.close
+    (tie.spec
+    check-fold-requires
+    enum-told
+    sums-onto-requires
+    enum-known-check
+    same-length
+    returns
+    returns-2)

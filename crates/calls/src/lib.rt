@@ -1,0 +1,120 @@
+// The calls mix, reduce and fold of document 01.
+use answer::Answer;
+use answer::Check;
+use answer::check_divisor;
+use answer::check_ring;
+use answer::check_rings;
+use answer::check_room;
+use convolve::convolve;
+use ring::LEAST_MODULUS;
+ghost use mathlib.Core.Path.{_≡_};
+ghost use Prim.Native.Nat.{_<_};
+ghost use lib.ListN.{length};
+ghost use Rattle.sums.specs.Sum.{sum};
+ghost use Rattle.ring.specs.Reduce as reduced;
+ghost use Rattle.ring.specs.Fold as folded;
+ghost use Rattle.calls.specs.Contracts.{mix-order, reduce-order, fold-order, Mixes, Reduces, Folds};
+ghost use Rattle.answer.specs.Order.{first};
+ghost use Rattle.calls.specs.Ready.{Reducible, Foldable, Place, fitting};
+
+fn check_mix(a: &[u32], b: &[u32], m: u32, room: usize) -> Check
+    ensures { λ r. ⌜ r ≡ first (mix-order (now (a .entry)) (now (b .entry)) m room) ⌝ }
+{
+    check_rings(a, b, m, Check::Passed).or(check_room(a.len(), room))
+}
+
+pub fn mix(a: &[u32], b: &[u32], m: u32, out: &mut [u32]) -> Answer
+    ensures { λ r. ⌜ Mixes (now (a .entry)) (now (b .entry)) m (now (out .entry)) r (now (out .exit)) ⌝ }
+{
+    let check = check_mix(a, b, m, out.len());
+    match check {
+        Check::Passed => {
+            convolve(a, b, m, out);
+            Answer::Done
+        }
+        Check::Refused(refusal) => Answer::Refused(refusal),
+    }
+}
+
+fn remainders(a: &[u32], divisor: u32, out: &mut [u32])
+    requires { ⌜ Reducible (now a) divisor (now out) ⌝ }
+    ensures { λ _. ⌜ now (out .exit) ≡ reduced.reduce (length (now (a .entry))) divisor (now (a .entry)) ⌝ }
+{
+    let mut k = 0;
+    while k < a.len() {
+        out[k] = a[k] % divisor;
+        k += 1;
+    }
+}
+
+fn check_reduce(a: &[u32], m: u32, divisor: u32, room: usize) -> Check
+    ensures { λ r. ⌜ r ≡ first (reduce-order (now (a .entry)) m divisor room) ⌝ }
+{
+    check_ring(a, m, Check::Passed)
+        .or(check_room(a.len(), room))
+        .or(check_divisor(divisor as usize, m as usize, LEAST_MODULUS as usize))
+}
+
+pub fn reduce(a: &[u32], m: u32, divisor: u32, out: &mut [u32]) -> Answer
+    ensures { λ r. ⌜ Reduces (now (a .entry)) m divisor (now (out .entry)) r (now (out .exit)) ⌝ }
+{
+    let check = check_reduce(a, m, divisor, out.len());
+    match check {
+        Check::Passed => {
+            remainders(a, divisor, out);
+            Answer::Done
+        }
+        Check::Refused(refusal) => Answer::Refused(refusal),
+    }
+}
+
+fn wide(x: u32) -> u64
+    ensures { λ r. ⌜ r ≡ x ⌝ }
+{
+    x as u64
+}
+
+// The sum of the entries at the places k, k + step, k + 2 step, ..
+fn sum_from(a: &[u32], k: usize, step: usize) -> u64
+    requires { ⌜ Place (now a) step k ⌝ }
+    ensures { λ r. ⌜ r ≡ sum (length (now (a .entry))) (fitting (now (a .entry)) step k) ⌝ }
+{
+    let mut total: u64 = 0;
+    let mut i = k;
+    while i < a.len() {
+        total += wide(a[i]);
+        i += step;
+    }
+    total
+}
+
+fn sums_onto(a: &[u32], m: u32, out: &mut [u32])
+    requires { ⌜ Foldable (now a) m (now out) ⌝ }
+    ensures { λ _. ⌜ now (out .exit) ≡ folded.fold (length (now (a .entry))) (length (now (out .entry))) m (now (a .entry)) ⌝ }
+{
+    let step = out.len();
+    let mut k = 0;
+    while k < step {
+        out[k] = (sum_from(a, k, step) % wide(m)) as u32;
+        k += 1;
+    }
+}
+
+fn check_fold(a: &[u32], m: u32, onto: usize) -> Check
+    ensures { λ r. ⌜ r ≡ first (fold-order (now (a .entry)) m onto) ⌝ }
+{
+    check_ring(a, m, Check::Passed).or(check_divisor(onto, a.len(), 1))
+}
+
+pub fn fold(a: &[u32], m: u32, out: &mut [u32]) -> Answer
+    ensures { λ r. ⌜ Folds (now (a .entry)) m (now (out .entry)) r (now (out .exit)) ⌝ }
+{
+    let check = check_fold(a, m, out.len());
+    match check {
+        Check::Passed => {
+            sums_onto(a, m, out);
+            Answer::Done
+        }
+        Check::Refused(refusal) => Answer::Refused(refusal),
+    }
+}

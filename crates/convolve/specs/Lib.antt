@@ -1,0 +1,5 @@
+pub mod Block
+pub mod Mixable
+pub mod Layout
+pub mod Four
+pub mod Asks
