@@ -4,7 +4,6 @@ use Prim.Native.Nat.{ℕ}
 use mathlib.Core.Path.{_≡_}
 use mathlib.Core.List.{List, [], _∷_}
 use native.Mathlib.Omega.{arith}
-use native.Mathlib.Nat.{le-of-dvd}
 use lib.ListN.{length}
 use Rattle.ring.specs.Limits.{least-modulus}
 use Rattle.convolve.specs.Mixable.{Mixable}
@@ -27,7 +26,7 @@ pub fold-ready : (a : List ℕ) (m : ℕ) (out : List ℕ) → first (fold-order
 fold-ready a m out e =
     let l = legal a [] m no-list (divisor 1 (length a) (length out) ∷ []) e in
     let d = divisor-passes 1 (length a) (length out) (both (divisor 1 (length a) (length out)) Passed (l .2) .0) in
-    record { modulus = omega (arith, l .0 .low); few = l .0 .few; some = d .0; onto = le-of-dvd (l .0 .some) (d .1) }
+    record { modulus = omega (arith, l .0 .low); few = l .0 .few; some = d .0; onto = d .1 }
 
 pub mix-ready : (a b : List ℕ) (m : ℕ) (out : List ℕ) → first (mix-order a b m (length out)) ≡ Passed → Mixable a b m out
 mix-ready a b m out e =

@@ -1,12 +1,9 @@
 -- What the loops of reduce and fold ask of their arguments.
-use Prim.Native.Nat.{ℕ, _%_, _≤_, _<_}
+use Prim.Native.Nat.{ℕ, _*_, _≤_, _<_, _∣_}
 use mathlib.Core.Path.{_≡_}
-use mathlib.Core.Bool.{cond}
 use mathlib.Core.List.{List}
-use lib.Dec.{eqb}
 use lib.ListN.{length}
 use Rattle.ring.specs.Limits.{most-entries}
-use Rattle.sums.specs.Table.{at}
 
 pub record Reducible (a : List ℕ) (m′ : ℕ) (out : List ℕ) : Type 0 where
   pub modulus : 0 < m′
@@ -16,14 +13,10 @@ pub record Foldable (a : List ℕ) (m : ℕ) (out : List ℕ) : Type 0 where
   pub modulus : 0 < m
   pub few : length a ≤ most-entries
   pub some : 0 < length out
-  pub onto : length out ≤ length a
+  pub onto : length out ∣ length a
 
--- Place k of the n′ that a is folded onto.
-pub record Place (a : List ℕ) (n′ k : ℕ) : Type 0 where
+-- Place k in each of the parts that a is made of, one after the other, each `step` long.
+pub record InParts (a : List ℕ) (step parts k : ℕ) : Type 0 where
   pub few : length a ≤ most-entries
-  pub onto : n′ ≤ length a
-  pub inside : k < n′
-
--- The entry at place i where i is k modulo n′, and else 0: what `fold` adds up.
-abbrev pub fitting : List ℕ → ℕ → ℕ → ℕ → ℕ
-fitting a n′ k i = cond (eqb (i % n′) k) (at a i) 0
+  pub whole : parts * step ≡ length a
+  pub inside : k < step

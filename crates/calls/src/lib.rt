@@ -8,14 +8,15 @@ use answer::check_room;
 use convolve::convolve;
 use ring::LEAST_MODULUS;
 ghost use mathlib.Core.Path.{_≡_};
-ghost use Prim.Native.Nat.{_<_};
+ghost use Prim.Native.Nat.{_+_, _*_};
 ghost use lib.ListN.{length};
 ghost use Rattle.sums.specs.Sum.{sum};
+ghost use Rattle.sums.specs.Table.{at};
 ghost use Rattle.ring.specs.Reduce as reduced;
 ghost use Rattle.ring.specs.Fold as folded;
 ghost use Rattle.calls.specs.Contracts.{mix-order, reduce-order, fold-order, Mixes, Reduces, Folds};
 ghost use Rattle.answer.specs.Order.{first};
-ghost use Rattle.calls.specs.Ready.{Reducible, Foldable, Place, fitting};
+ghost use Rattle.calls.specs.Ready.{Reducible, Foldable, InParts};
 
 fn check_mix(a: &[u32], b: &[u32], m: u32, room: usize) -> Check
     ensures { λ r. ⌜ r ≡ first (mix-order (now (a .entry)) (now (b .entry)) m room) ⌝ }
@@ -74,28 +75,31 @@ fn wide(x: u32) -> u64
     x as u64
 }
 
-// The sum of the entries at the places k, k + step, k + 2 step, ..
-fn sum_from(a: &[u32], k: usize, step: usize) -> u64
-    requires { ⌜ Place (now a) step k ⌝ }
-    ensures { λ r. ⌜ r ≡ sum (length (now (a .entry))) (fitting (now (a .entry)) step k) ⌝ }
+// The sum of the entries at k, k + step, k + 2 step, ..: one from each part.
+fn sum_parts(a: &[u32], step: usize, parts: usize, k: usize) -> u64
+    requires { ⌜ InParts (now a) step parts k ⌝ }
+    ensures { λ r. ⌜ r ≡ sum parts (λ t. at (now (a .entry)) (k + t * step)) ⌝ }
 {
     let mut total: u64 = 0;
     let mut i = k;
-    while i < a.len() {
+    let mut t = 0;
+    while t < parts {
         total += wide(a[i]);
         i += step;
+        t += 1;
     }
     total
 }
 
-fn sums_onto(a: &[u32], m: u32, out: &mut [u32])
+fn fold_parts(a: &[u32], m: u32, out: &mut [u32])
     requires { ⌜ Foldable (now a) m (now out) ⌝ }
     ensures { λ _. ⌜ now (out .exit) ≡ folded.fold (length (now (a .entry))) (length (now (out .entry))) m (now (a .entry)) ⌝ }
 {
     let step = out.len();
+    let parts = a.len() / step;
     let mut k = 0;
     while k < step {
-        out[k] = (sum_from(a, k, step) % wide(m)) as u32;
+        out[k] = (sum_parts(a, step, parts, k) % wide(m)) as u32;
         k += 1;
     }
 }
@@ -112,7 +116,7 @@ pub fn fold(a: &[u32], m: u32, out: &mut [u32]) -> Answer
     let check = check_fold(a, m, out.len());
     match check {
         Check::Passed => {
-            sums_onto(a, m, out);
+            fold_parts(a, m, out);
             Answer::Done
         }
         Check::Refused(refusal) => Answer::Refused(refusal),

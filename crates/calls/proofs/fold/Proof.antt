@@ -1,4 +1,4 @@
--- `calls::fold` meets its contract: what its check finds decides, and where it finds nothing the output holds the sums.
+-- `calls::fold` meets its contract: what its check finds decides, and where it finds nothing the output holds the sums over the parts.
 -- Assumes nothing.
 use mathlib.Core.Path.{refl, sym, _∙_}
 use Rattle.calls.proofs.Legal.{fold-ready}
@@ -12,8 +12,8 @@ check-fold-requires c κs = search needs
 enum-told : tie.Need-enum-told
 enum-told c = search needs
 
-sums-onto-requires : tie.Need-sums-onto-requires
-sums-onto-requires c κs = fold-ready _ _ _ (sym (c .before .before .before .check-fold .ensures) ∙ c .before .enum-told .given .1)
+fold-parts-requires : tie.Need-fold-parts-requires
+fold-parts-requires c κs = fold-ready _ _ _ (sym (c .before .before .before .check-fold .ensures) ∙ c .before .enum-told .given .1)
 
 enum-known-check : tie.Need-enum-known-check
 enum-known-check c = search needs
@@ -23,7 +23,7 @@ same-length c = search needs
 
 returns : tie.Need-returns
 returns c = record {
-  meets = (sym (c .before .before .before .before .before .before .check-fold .ensures) ∙ c .before .before .before .before .enum-told .given .1, c .before .before .sums-onto .ensures);
+  meets = (sym (c .before .before .before .before .before .before .check-fold .ensures) ∙ c .before .before .before .before .enum-told .given .1, c .before .before .fold-parts .ensures);
 }
 
 returns-2 : tie.Need-returns-2
@@ -35,7 +35,7 @@ fold-spec =
     (tie.spec
     check-fold-requires
     enum-told
-    sums-onto-requires
+    fold-parts-requires
     enum-known-check
     same-length
     returns

@@ -1,0 +1,35 @@
+/* One way to do one job, on inputs that every contender of the job is given alike. */
+#ifndef CONTENDER_H
+#define CONTENDER_H
+
+#include <stddef.h>
+#include <stdint.h>
+
+#define MOST_ENTRIES 1024
+
+#ifdef __cplusplus
+extern "C" {
+#endif
+
+/*
+ * Only `run` is timed. `set` may bring the inputs into a library's own form and
+ * `get` brings the result back, so a library is not charged for its forms.
+ */
+struct contender {
+    const char *name;
+    void (*set)(const uint32_t *a, const uint32_t *b, size_t n, uint32_t m);
+    void (*run)(void);
+    void (*get)(uint32_t *out);
+};
+
+extern const struct contender dowelbrook_mixes;
+extern const struct contender plain_mixes;
+extern const struct contender flint_mixes;
+extern const struct contender ntl_mixes;
+extern const struct contender pari_mixes;
+
+#ifdef __cplusplus
+}
+#endif
+
+#endif

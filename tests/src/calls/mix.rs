@@ -1,0 +1,72 @@
+use super::Call;
+use crate::case::{Answer, Case};
+use crate::door::{Number::*, Reply, DONE};
+use crate::draw;
+use crate::figures::{limits, worked, Figure};
+use crate::lent::Loan;
+
+pub const CALL: Call = Call {
+    name: "mix",
+    rings: 2,
+    order: &[Empty, Large, Mismatch, Modulus, Coefficient, Room],
+    complete: draw::output,
+    ask,
+    answer,
+    figures,
+};
+
+extern "C" {
+    fn dowelbrook_mix(
+        a: *const u32,
+        a_len: usize,
+        b: *const u32,
+        b_len: usize,
+        m: u32,
+        out: *mut u32,
+        out_len: usize,
+    ) -> Reply;
+}
+
+fn ask(loan: &mut Loan) -> Reply {
+    let (a, b) = (loan.rings[0].content(), loan.rings[1].content());
+    let out = loan.out.content_mut();
+    // Each pointer goes with its slice's length, and the output is a buffer of its own.
+    unsafe {
+        dowelbrook_mix(
+            a.as_ptr(),
+            a.len(),
+            b.as_ptr(),
+            b.len(),
+            loan.m,
+            out.as_mut_ptr(),
+            out.len(),
+        )
+    }
+}
+
+/// "entry k of the product of a and b is the sum over i of a_i times b_((k-i) mod n), modulo m"
+fn answer(case: &Case) -> Answer {
+    let (a, b, n) = (&case.rings[0], &case.rings[1], case.n() as i128);
+    let entry = |k: i128| -> u32 {
+        let term = |i: i128| a[i as usize] as i128 * b[(k - i).rem_euclid(n) as usize] as i128;
+        let sum: i128 = (0..n).map(term).sum();
+        (sum % case.m as i128) as u32
+    };
+    Answer { reply: DONE, out: (0..n).map(entry).collect() }
+}
+
+fn squared(ring: Vec<u32>, m: u32) -> Case {
+    let out = vec![7; ring.len()];
+    Case { rings: vec![ring.clone(), ring], m, divisor: None, out }
+}
+
+fn figures() -> Vec<Figure> {
+    let pattern_and_counts =
+        Case { rings: vec![vec![1, 2, 0], vec![1, 0, 5]], m: 10, divisor: None, out: vec![7; 3] };
+    let mut figures = limits(squared);
+    // The matrix applied to a column would give [1, 0, 7].
+    figures.push(worked(pattern_and_counts, vec![1, 2, 5]));
+    // The largest sum there is: (m - 1) squared is 1 modulo m.
+    figures.push(worked(squared(vec![999_999; 1_024], 1_000_000), vec![1_024; 1_024]));
+    figures
+}

@@ -1,0 +1,38 @@
+//! The calls. A new call is a new module with a `CALL`, and a line in `ALL`.
+
+use crate::case::{Answer, Case};
+use crate::door::{Number, Reply};
+use crate::figures::Figure;
+use crate::lent::Loan;
+use crate::random::Random;
+
+mod fold;
+mod mix;
+mod reduce;
+
+pub struct Call {
+    pub name: &'static str,
+    pub rings: usize,
+    /// Its refusals, in the order of document 01.
+    pub order: &'static [Number],
+    /// Draws what lies beyond rings and modulus, with the faults asked for.
+    pub complete: fn(&mut Case, &[Number], &mut Random),
+    /// Asks the C door.
+    pub ask: fn(&mut Loan) -> Reply,
+    /// What document 01 says of a case that no check refuses.
+    pub answer: fn(&Case) -> Answer,
+    pub figures: fn() -> Vec<Figure>,
+}
+
+impl Call {
+    /// Whether one case can have both faults, `first` standing before `second` in the order.
+    pub fn can_meet(&self, first: Number, second: Number) -> bool {
+        match (first, second) {
+            (Number::Empty, Number::Large) => false,
+            (Number::Empty, Number::Coefficient) => self.rings > 1,
+            _ => true,
+        }
+    }
+}
+
+pub const ALL: [Call; 3] = [mix::CALL, reduce::CALL, fold::CALL];

@@ -1,0 +1,66 @@
+//! One case through the C door and through the second implementation.
+
+use crate::calls::Call;
+use crate::case::{Answer, Case};
+use crate::door::Number;
+use crate::figures::Figure;
+use crate::lent::Loan;
+use crate::random::Random;
+use crate::refusals;
+
+/// Compares one case. Hands back the numbers of all refusals that apply, the one given first.
+pub fn case(call: &Call, case: &Case, random: &mut Random) -> Result<Vec<Number>, String> {
+    let applying = refusals::all(call.order, case);
+    let expected = match applying.first() {
+        Some(&(_, reply)) => Answer { reply, out: case.out.clone() },
+        None => (call.answer)(case),
+    };
+    let observed = observe(call, case, random)?;
+    if observed != expected {
+        return Err(difference(call, case, &expected, &observed));
+    }
+    Ok(applying.into_iter().map(|(number, _)| number).collect())
+}
+
+/// Compares a figure: the written answer with the second implementation and with the C door.
+pub fn figure(call: &Call, figure: &Figure, random: &mut Random) -> Result<(), String> {
+    let (inputs, reply, content) = figure;
+    case(call, inputs, random)?;
+    let observed = observe(call, inputs, random)?;
+    let out = content.clone().unwrap_or_else(|| observed.out.clone());
+    let written = Answer { reply: *reply, out };
+    if observed != written {
+        return Err(difference(call, inputs, &written, &observed));
+    }
+    Ok(())
+}
+
+fn observe(call: &Call, case: &Case, random: &mut Random) -> Result<Answer, String> {
+    let mut loan = Loan::of(case, random);
+    let before = loan.clone();
+    let reply = (call.ask)(&mut loan);
+    if loan.rings != before.rings {
+        return Err(describe(call, case, "an input was changed"));
+    }
+    if loan.out.canaries() != before.out.canaries() {
+        return Err(describe(call, case, "written outside the output"));
+    }
+    Ok(Answer { reply, out: loan.out.content().to_vec() })
+}
+
+fn difference(call: &Call, case: &Case, expected: &Answer, observed: &Answer) -> String {
+    let fault = if observed.reply != expected.reply {
+        format!("{:?}, not {:?}", observed.reply, expected.reply)
+    } else {
+        let differs = |k: &usize| observed.out[*k] != expected.out[*k];
+        let k = (0..case.out.len()).find(differs).unwrap();
+        format!("at place {k} of the output {}, not {}", observed.out[k], expected.out[k])
+    };
+    describe(call, case, &fault)
+}
+
+fn describe(call: &Call, case: &Case, fault: &str) -> String {
+    let mut inputs = format!("{case:?}");
+    inputs.truncate(1_000);
+    format!("{}: {fault}\n{inputs}", call.name)
+}

@@ -1,0 +1,30 @@
+//! What every call of the C door answers, as include/dowelbrook.h declares it.
+
+#[repr(C)]
+#[derive(Clone, Copy, Debug, Default, PartialEq, Eq)]
+pub struct Reply {
+    pub number: u32,
+    pub prime: u32,
+    pub ring: usize,
+    pub place: usize,
+}
+
+pub const DONE: Reply = Reply { number: 0, prime: 0, ring: 0, place: 0 };
+
+#[derive(Clone, Copy, Debug, PartialEq, Eq)]
+pub enum Number {
+    Empty = 1,
+    Large = 2,
+    Mismatch = 3,
+    Modulus = 4,
+    Coefficient = 6,
+    Room = 7,
+    Divisor = 8,
+}
+
+impl Number {
+    /// The refusal with this number that tells nothing besides.
+    pub fn bare(self) -> Reply {
+        Reply { number: self as u32, ..DONE }
+    }
+}

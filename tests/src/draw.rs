@@ -1,0 +1,158 @@
+//! Draws a call's inputs: legal ones, with just the faults asked for.
+
+use crate::calls::Call;
+use crate::case::Case;
+use crate::door::Number;
+use crate::random::Random;
+
+/// Every set of one, two or three faults that one case of the call can have.
+pub fn fault_sets(call: &Call) -> Vec<Vec<Number>> {
+    let mut sets = vec![vec![]];
+    for &number in call.order {
+        for index in 0..sets.len() {
+            let set = &sets[index];
+            if set.len() < 3 && set.iter().all(|&earlier| call.can_meet(earlier, number)) {
+                sets.push([&set[..], &[number]].concat());
+            }
+        }
+    }
+    sets.split_off(1)
+}
+
+pub fn case(call: &Call, faults: &[Number], random: &mut Random) -> Case {
+    let n = length(faults, random);
+    let m = modulus(faults, random);
+    let rings = (0..call.rings).map(|_| ring(n, m, random)).collect();
+    let mut case = Case { rings, m, divisor: None, out: Vec::new() };
+    if faults.contains(&Number::Mismatch) {
+        spoil_lengths(&mut case, random);
+    }
+    if faults.contains(&Number::Coefficient) {
+        spoil_entries(&mut case, random);
+    }
+    (call.complete)(&mut case, faults, random);
+    case
+}
+
+fn length(faults: &[Number], random: &mut Random) -> usize {
+    if faults.contains(&Number::Empty) {
+        return 0;
+    }
+    if faults.contains(&Number::Large) {
+        return random.one_of(&[1_025, 1_026, 1_088, 1_280, 2_048]);
+    }
+    match random.below(100) {
+        0 => random.one_of(&[1_024, 1_023, 1_021, 1_008, 720, 512, 257]),
+        1 => 1 + random.below(1_024),
+        _ => 1 + random.below(64),
+    }
+}
+
+fn modulus(faults: &[Number], random: &mut Random) -> u32 {
+    if faults.contains(&Number::Modulus) {
+        let above = random.between(1_000_001, u32::MAX);
+        return random.one_of(&[0, 1, 1_000_001, u32::MAX, above]);
+    }
+    const TELLING: [u32; 12] =
+        [2, 3, 8, 9, 10, 1 << 19, 531_441, 510_510, 720_720, 999_983, 999_999, 1_000_000];
+    match random.below(4) {
+        0 => random.between(2, 60),
+        1 => random.between(2, 1_000_000),
+        _ => random.one_of(&TELLING),
+    }
+}
+
+/// n entries below m: all sorts, mostly 0, near the ends, or all the largest.
+fn ring(n: usize, m: u32, random: &mut Random) -> Vec<u32> {
+    let top = m.saturating_sub(1);
+    let kind = random.below(8);
+    let entry = |_| match kind {
+        0 => [0, 0, 0, random.between(0, top)][random.below(4)],
+        1 => random.one_of(&[0, 1.min(top), top]),
+        2 => top,
+        _ => random.between(0, top),
+    };
+    (0..n).map(entry).collect()
+}
+
+/// Gives at least one ring but the first another length.
+fn spoil_lengths(case: &mut Case, random: &mut Random) {
+    let n = case.n();
+    let certain = 1 + random.below(case.rings.len() - 1);
+    for index in 1..case.rings.len() {
+        if index == certain || random.below(2) == 0 {
+            case.rings[index] = ring(other_length(n, random), case.m, random);
+        }
+    }
+}
+
+/// Makes one to three entries m or more.
+fn spoil_entries(case: &mut Case, random: &mut Random) {
+    for _ in 0..1 + random.below(3) {
+        let index = random.below(case.rings.len());
+        let length = case.rings[index].len();
+        if length > 0 {
+            let anywhere = random.below(length);
+            let place = random.one_of(&[0, length - 1, anywhere, anywhere]);
+            let above = random.between(case.m, u32::MAX);
+            let entry = random.one_of(&[case.m, case.m.saturating_add(1), above, u32::MAX]);
+            case.rings[index][place] = entry;
+        }
+    }
+}
+
+/// A length that is not n.
+fn other_length(n: usize, random: &mut Random) -> usize {
+    let longer = n + 1 + random.below(80);
+    let shorter = random.below(n.max(1));
+    let length = random.one_of(&[0, n.saturating_sub(1), shorter, n + 1, longer, 1_024, 1_025]);
+    if length == n {
+        n + 1
+    } else {
+        length
+    }
+}
+
+/// A lent output as it comes: any words at all.
+pub fn any_words(length: usize, random: &mut Random) -> Vec<u32> {
+    (0..length).map(|_| random.word() as u32).collect()
+}
+
+/// An output with room for n entries, or the fault ROOM.
+pub fn output(case: &mut Case, faults: &[Number], random: &mut Random) {
+    let n = case.n();
+    let room = faults.contains(&Number::Room);
+    let length = if room { other_length(n, random) } else { n };
+    case.out = any_words(length, random);
+}
+
+/// A divisor of `whole` from `least` up, or the fault DIVISOR: a number that is not one.
+pub fn divisor(whole: u32, least: u32, faults: &[Number], random: &mut Random) -> u32 {
+    if !faults.contains(&Number::Divisor) {
+        return random.one_of(&divisors(whole, least));
+    }
+    loop {
+        let (below, above) = (whole.saturating_sub(1), whole.saturating_add(1));
+        let anything = random.between(0, above);
+        let double = whole.wrapping_mul(2);
+        let wrong = random.one_of(&[0, 1, below, above, double, whole / 2, anything, anything]);
+        if wrong < least || !whole.is_multiple_of(wrong) {
+            return wrong;
+        }
+    }
+}
+
+/// Divisors of `whole` from `least` up: all of them if `whole` is at most 1,000,000. Where there is
+/// none, `least`.
+fn divisors(whole: u32, least: u32) -> Vec<u32> {
+    if whole == 0 {
+        return (least..least + 8).collect();
+    }
+    let small = (1..=1_000.min(whole)).filter(|&d| whole.is_multiple_of(d));
+    let found: Vec<u32> = small.flat_map(|d| [d, whole / d]).filter(|&d| d >= least).collect();
+    if found.is_empty() {
+        vec![least]
+    } else {
+        found
+    }
+}

@@ -1,0 +1,75 @@
+//! Compares the C door with a second implementation, written from document 01 alone: answer, told
+//! values and the whole content of every lent buffer. comparison [SEED]
+
+mod calls;
+mod case;
+mod compare;
+mod door;
+mod draw;
+mod figures;
+mod lent;
+mod random;
+mod refusals;
+mod tally;
+
+use calls::Call;
+use random::Random;
+use std::process::ExitCode;
+use tally::Tally;
+
+const SEED: u64 = 20_260;
+const CASES_EACH: usize = 100_000;
+const LEAST_CASES: usize = 100_000;
+
+fn main() -> ExitCode {
+    let seed = match std::env::args().nth(1).map(|word| word.parse()) {
+        None => SEED,
+        Some(Ok(seed)) => seed,
+        Some(Err(_)) => {
+            eprintln!("usage: comparison [SEED]");
+            return ExitCode::from(2);
+        }
+    };
+    match run(&mut Random::new(seed)) {
+        Ok(cases) => {
+            println!("comparison: {cases} cases agree (seed {seed})");
+            ExitCode::SUCCESS
+        }
+        Err(failure) => {
+            println!("comparison: FAILED (seed {seed})\n{failure}");
+            ExitCode::FAILURE
+        }
+    }
+}
+
+/// Runs every call, up to the first difference.
+fn run(random: &mut Random) -> Result<usize, String> {
+    let mut cases = 0;
+    Tally::print_head();
+    for call in &calls::ALL {
+        (call.figures)().iter().try_for_each(|figure| compare::figure(call, figure, random))?;
+        let tally = draw_and_compare(call, random)?;
+        tally.print();
+        if !tally.enough() {
+            return Err(format!("{}: an answer was met too seldom", call.name));
+        }
+        cases += tally.cases;
+    }
+    if cases < LEAST_CASES {
+        return Err(format!("only {cases} cases"));
+    }
+    Ok(cases)
+}
+
+/// Legal cases and each set of faults in turn.
+fn draw_and_compare<'a>(call: &'a Call, random: &mut Random) -> Result<Tally<'a>, String> {
+    let fault_sets = draw::fault_sets(call);
+    let mut tally = Tally::new(call);
+    for round in 0..CASES_EACH / 2 {
+        for faults in [&[][..], &fault_sets[round % fault_sets.len()]] {
+            let case = draw::case(call, faults, random);
+            tally.count(&compare::case(call, &case, random)?);
+        }
+    }
+    Ok(tally)
+}

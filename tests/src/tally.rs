@@ -1,0 +1,67 @@
+//! How often each answer was met, and whether that is often enough.
+
+use crate::calls::Call;
+use crate::door::Number;
+
+const LEAST_GIVEN: usize = 500;
+const LEAST_ALONE: usize = 50;
+const LEAST_PAIRED: usize = 50;
+
+pub struct Tally<'a> {
+    call: &'a Call,
+    pub cases: usize,
+    done: usize,
+    given: [usize; 10],
+    alone: [usize; 10],
+    paired: [[usize; 10]; 10],
+}
+
+impl<'a> Tally<'a> {
+    pub fn new(call: &'a Call) -> Self {
+        Tally { call, cases: 0, done: 0, given: [0; 10], alone: [0; 10], paired: [[0; 10]; 10] }
+    }
+
+    /// Counts a case to which these refusals apply, the one given first.
+    pub fn count(&mut self, applying: &[Number]) {
+        self.cases += 1;
+        match applying {
+            [] => self.done += 1,
+            [only] => self.alone[*only as usize] += 1,
+            [first, others @ ..] => {
+                others.iter().for_each(|other| self.paired[*first as usize][*other as usize] += 1)
+            }
+        }
+        if let Some(first) = applying.first() {
+            self.given[*first as usize] += 1;
+        }
+    }
+
+    pub fn enough(&self) -> bool {
+        self.call.order.iter().all(|&number| {
+            self.given[number as usize] >= LEAST_GIVEN
+                && self.alone[number as usize] >= LEAST_ALONE
+                && self.rarest_pair(number).is_none_or(|count| count >= LEAST_PAIRED)
+        })
+    }
+
+    /// How often this refusal was given while a later one applied too, for the rarest later one.
+    fn rarest_pair(&self, number: Number) -> Option<usize> {
+        let later = self.call.order.iter().filter(|&&other| other as u32 > number as u32);
+        let possible = later.filter(|&&other| self.call.can_meet(number, other));
+        possible.map(|&other| self.paired[number as usize][other as usize]).min()
+    }
+
+    pub fn print(&self) {
+        println!("{:<8}{:<16}{:>8}", self.call.name, "0 DONE", self.done);
+        for &number in self.call.order {
+            let name = format!("{} {number:?}", number as u32).to_uppercase();
+            let (given, alone) = (self.given[number as usize], self.alone[number as usize]);
+            let paired = self.rarest_pair(number).map_or("-".into(), |count| count.to_string());
+            println!("{:<8}{name:<16}{given:>8}{alone:>8}{paired:>8}", "");
+        }
+    }
+
+    pub fn print_head() {
+        println!("{:<8}{:<16}{:>8}{:>8}{:>8}", "call", "answer", "given", "alone", "paired");
+    }
+}
