@@ -1,20 +1,22 @@
 -- Sums block by block. Within a block a sum of products is at most `block * largest`, so it never wraps, also with a
--- remainder beside it (`term-fits`, `remainder-fits`). A block more is a part of x and of c more (`next-block`).
+-- remainder beside it (`term-fits`, `sums-fit`). A block more is a part of x and of c more (`next-block`).
 -- Assumes nothing.
 use Prim.Native.Nat.{ℕ, _+_, _*_, _-_, _%_, _^_, _≤_, _<_}
 use mathlib.Core.Path.{_≡_, refl, sym, ap, _∙_}
 use mathlib.Core.List.{List}
 use native.Mathlib.Omega.{arith}
-use native.Mathlib.Nat.{le-trans, lt-of-lt-of-le, mul-le-mul, mul-le-mul-right, mod-lt, mod-add-mod}
+use native.Mathlib.Nat.{le-trans, lt-of-lt-of-le, mul-le-mul, mul-le-mul-right, mod-lt, zero-mod, mod-add-mod}
 use lib.ListN.{length, take, drop}
 use lib.Seq.{getD-take, getD-drop}
 use Rattle.sums.specs.Sum.{sum}
 use Rattle.sums.specs.Table.{at}
-use Rattle.sums.proofs.Sums.{sum-last, sum-le, sum-eq, sum-append}
+use Rattle.sums.proofs.Sums.{sum-none, sum-last, sum-le, sum-eq, sum-append}
 use Rattle.ring.specs.Limits.{most-modulus}
 use Rattle.convolve.specs.Block.{block}
 use Rattle.convolve.specs.Layout.{term, along}
-use Rattle.convolve.specs.Asks.{Product, Reduced, OneBlock, AnyLength, BlockEnd}
+use Rattle.convolve.specs.declared.Quad.{Quad}
+use Rattle.convolve.specs.Four.{Four, SumsFit, Reduced}
+use Rattle.convolve.specs.Inner.{ProductFits, OneBlock, AnyLength, BlockEnd}
 use Rattle.convolve.proofs.Parts.{length-part, low-part, rest}
 use Rattle.convolve.proofs.Word.{largest, block-fits, modulus-fits}
 
@@ -31,7 +33,7 @@ block-le x c j i p h =
 pub next-term : (x c : List ℕ) (j i k s r : ℕ) → k ≡ i + j → s ≡ sum i (term x c j) → r ≡ s + at x i * at c k → r ≡ sum (i + 1) (term x c j)
 next-term x c j i k s r e hs hr = rw sum-last (cc)
 
-pub term-fits : (x c : List ℕ) (j i k s : ℕ) → OneBlock x c → i < length x → k ≡ i + j → s ≡ sum i (term x c j) → Product s (at x i) (at c k)
+pub term-fits : (x c : List ℕ) (j i k s : ℕ) → OneBlock x c → i < length x → k ≡ i + j → s ≡ sum i (term x c j) → ProductFits s (at x i) (at c k)
 term-fits x c j i k s p h e hs = record {
   word-x = lt-of-lt-of-le (p .low-x i) modulus-fits;
   word-y = lt-of-lt-of-le (p .low-c k) modulus-fits;
@@ -57,23 +59,45 @@ part-along x c i e j l =
     rw (getD-take (e - i) (drop i x) t 0 b, getD-drop i x t 0, getD-drop i c (t + j) 0, s)
     refl))
 
-pub next-block : (x c : List ℕ) (m i e j s t r : ℕ) → i ≤ e → e ≤ length x
-    → s ≡ sum i (term x c j) % m → t ≡ along (take (e - i) (drop i x)) (take (length c - i) (drop i c)) j → r ≡ (s + t) % m → r ≡ sum e (term x c j) % m
-next-block x c m i e j s t r h l hs ht hr =
-    let g : i + (e - i) ≡ e = omega arith in
-    hr
-    ∙ ap (λ (z : ℕ). (z + t) % m) hs
-    ∙ mod-add-mod (sum i (term x c j)) m t
-    ∙ ap (λ (z : ℕ). (sum i (term x c j) + z) % m) (ht ∙ part-along x c i e j l)
-    ∙ ap (λ (z : ℕ). z % m) (sym (sum-append i (e - i) (term x c j)))
-    ∙ ap (λ (z : ℕ). sum z (term x c j) % m) g
+-- Before the first block.
+pub first-block : (m : ℕ) (f : ℕ → ℕ) → 0 ≡ sum 0 f % m
+first-block m f = sym (ap (λ (z : ℕ). z % m) (sum-none f) ∙ zero-mod m)
 
--- The remainder so far and a block's sum.
-pub remainder-fits : (x c : List ℕ) (m i e j s t : ℕ) → AnyLength x c m → BlockEnd i (length x) e
-    → s ≡ sum i (term x c j) % m → t ≡ along (take (e - i) (drop i x)) (take (length c - i) (drop i c)) j → Reduced s t m
-remainder-fits x c m i e j s t p b hs ht =
-    let o = block-ready x c m i e p b in
-    record {
+module _ (x c : List ℕ) (m i e : ℕ) (p : AnyLength x c m) (b : BlockEnd i (length x) e) where
+  next-sum : (j s t r : ℕ) → s ≡ sum i (term x c j) % m → t ≡ along (take (e - i) (drop i x)) (take (length c - i) (drop i c)) j → r ≡ (s + t) % m → r ≡ sum e (term x c j) % m
+  next-sum j s t r hs ht hr =
+      let g : i + (e - i) ≡ e = omega arith in
+      hr
+      ∙ ap (λ (z : ℕ). (z + t) % m) hs
+      ∙ mod-add-mod (sum i (term x c j)) m t
+      ∙ ap (λ (z : ℕ). (sum i (term x c j) + z) % m) (ht ∙ part-along x c i e j (b .within))
+      ∙ ap (λ (z : ℕ). z % m) (sym (sum-append i (e - i) (term x c j)))
+      ∙ ap (λ (z : ℕ). sum z (term x c j) % m) g
+
+  sum-fits : (j s t : ℕ) → s ≡ sum i (term x c j) % m → t ≡ along (take (e - i) (drop i x)) (take (length c - i) (drop i c)) j → s + t < 2 ^ 64
+  sum-fits j s t hs ht =
+      omega (
+        arith,
+        mod-lt (sum i (term x c j)) (p .positive),
+        block-le _ _ j (length (take (e - i) (drop i x))) (block-ready x c m i e p b) (omega arith),
+        block-fits,
+      )
+
+  module _ (s t : Quad) (hs : Four (λ j. sum i (term x c j) % m) s) (ht : Four (along (take (e - i) (drop i x)) (take (length c - i) (drop i c))) t) where
+    -- The remainders so far and a block's sums.
+    pub sums-fit : SumsFit s t m
+    sums-fit = record {
       positive = p .positive;
-      fits = omega (arith, mod-lt (sum i (term x c j)) (p .positive), p .limit, block-le _ _ j (length (take (e - i) (drop i x))) o (omega arith), block-fits);
+      fits0 = sum-fits 0 _ _ (hs .at0) (ht .at0);
+      fits1 = sum-fits 1 _ _ (hs .at1) (ht .at1);
+      fits2 = sum-fits 2 _ _ (hs .at2) (ht .at2);
+      fits3 = sum-fits 3 _ _ (hs .at3) (ht .at3);
+    }
+
+    pub next-block : (r : Quad) → Reduced s t m r → Four (λ j. sum e (term x c j) % m) r
+    next-block r hr = record {
+      at0 = next-sum 0 _ _ _ (hs .at0) (ht .at0) (hr .at0);
+      at1 = next-sum 1 _ _ _ (hs .at1) (ht .at1) (hr .at1);
+      at2 = next-sum 2 _ _ _ (hs .at2) (ht .at2) (hr .at2);
+      at3 = next-sum 3 _ _ _ (hs .at3) (ht .at3) (hr .at3);
     }

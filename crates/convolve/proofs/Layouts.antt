@@ -1,13 +1,13 @@
 -- The layouts, one store at a time: a filling loop holds the table up to its border, and what stands there one turn back is what goes in.
 -- Assumes nothing.
-use Prim.Native.Nat.{ℕ, _+_, _*_, _-_, _%_, _≤_, _<_}
+use Prim.Native.Nat.{ℕ, _+_, _-_, _%_, _≤_, _<_}
 use mathlib.Core.Path.{_≡_, sym, ap, _∙_}
 use mathlib.Core.List.{List, _++_}
 use native.Mathlib.Omega.{arith}
 use native.Mathlib.Nat.{mod-eq-of-lt, add-mod-right}
 use lib.ListN.{length, take, drop, set, List·getD-append}
 use lib.Seq.{take-at, drop-at, length-take-le}
-use Rattle.sums.specs.Table.{at, table}
+use Rattle.sums.specs.Table.{at}
 use Rattle.sums.proofs.Tables.{length-table, at-table, table-low}
 use Rattle.sums.proofs.Fill.{fill-none, fill-step, fill-all}
 use Rattle.convolve.specs.Layout.{backwards, around}

@@ -1,5 +1,5 @@
 -- Parts of lists: a part's length, its bound, and that a part up to the end is all that is left. Assumes nothing.
-use Prim.Native.Nat.{ℕ, _-_, _+_, _≤_, _<_}
+use Prim.Native.Nat.{ℕ, _-_, _+_, _≤_}
 use mathlib.Core.Path.{_≡_}
 use mathlib.Core.List.{List}
 use native.Mathlib.Omega.{arith}
@@ -7,7 +7,7 @@ use native.Mathlib.Decide.{decLt}
 use lib.ListN.{length, take, drop, length-take, length-drop}
 use lib.Seq.{length-take-le, take-all, getD-take, getD-drop}
 use Rattle.sums.proofs.Tables.{at-past}
-use Rattle.convolve.specs.Asks.{Low}
+use Rattle.convolve.specs.Inner.{Low}
 
 pub length-part : (f e : ℕ) (l : List ℕ) → e ≤ length l → length (take (e - f) (drop f l)) ≡ e - f
 length-part f e l h = length-take-le (e - f) (drop f l) (simp length-drop (omega arith))

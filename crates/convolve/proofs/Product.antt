@@ -1,6 +1,6 @@
 -- The product: a backwards along b around, from k + 1 on, is entry k of `mix`. The sum over i runs the other way round: i stands for n - (i + 1).
 -- Assumes nothing.
-use Prim.Native.Nat.{ℕ, zero, suc, _+_, _*_, _-_, _%_, _≤_, _<_}
+use Prim.Native.Nat.{ℕ, zero, suc, _+_, _*_, _-_, _%_, _<_}
 use mathlib.Core.Path.{_≡_, refl, sym, ap, _∙_}
 use mathlib.Core.List.{List}
 use native.Mathlib.Omega.{arith}
@@ -11,9 +11,9 @@ use Rattle.sums.specs.Table.{at, table}
 use Rattle.sums.proofs.Sums.{sum-eq, sum-step}
 use Rattle.sums.proofs.Tables.{table-eq}
 use Rattle.ring.specs.Mix.{mix}
-use Rattle.convolve.specs.Layout.{backwards, around, term, along}
+use Rattle.convolve.specs.Layout.{backwards, around, along}
 use Rattle.convolve.specs.Mixable.{Mixable}
-use Rattle.convolve.specs.Asks.{Rows}
+use Rattle.convolve.specs.Inner.{Rows}
 use Rattle.convolve.proofs.Layouts.{length-backwards, at-backwards, low-backwards, length-around, at-around, low-around}
 
 -- A sum may be taken from its end.

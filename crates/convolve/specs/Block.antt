@@ -1,5 +1,5 @@
 -- The most products that are added before a remainder is taken, and the most entries that are laid out in the small arrays.
--- The same names stand in src/lib.rt. That a block's sum, and a remainder beside it, fits a word of 64 bits is `fits` in proofs/Word.antt.
+-- The same names stand in src/lib.rt. That a block's sum with a remainder beside it fits 64 bits is `block-fits` in proofs/Word.antt.
 use Prim.Native.Nat.{ℕ}
 
 abbrev pub block : ℕ

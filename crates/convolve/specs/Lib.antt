@@ -2,4 +2,4 @@ pub mod Block
 pub mod Mixable
 pub mod Layout
 pub mod Four
-pub mod Asks
+pub mod Inner

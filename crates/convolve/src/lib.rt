@@ -12,8 +12,8 @@ ghost use Rattle.sums.specs.Table.{table};
 ghost use Rattle.ring.specs.Mix.{mix};
 ghost use Rattle.convolve.specs.Mixable.{Mixable};
 ghost use Rattle.convolve.specs.Layout.{backwards, around, along};
-ghost use Rattle.convolve.specs.Four.{Four};
-ghost use Rattle.convolve.specs.Asks.{Product, OneBlock, BlockEnd, AnyLength, Reduced, Rows, Few, Room};
+ghost use Rattle.convolve.specs.Four.{Four, SumsFit, Reduced, Words};
+ghost use Rattle.convolve.specs.Inner.{ProductFits, SumFits, OneBlock, BlockEnd, AnyLength, Rows, Holds, Room, Few};
 
 // The most products that are added before a remainder is taken.
 const BLOCK: usize = 1024;
@@ -21,11 +21,11 @@ const BLOCK: usize = 1024;
 // Rings of up to this many entries are laid out in small arrays, which cost less to clear.
 const FEW: usize = 128;
 
-pub struct Quad {
-    pub s0: u64,
-    pub s1: u64,
-    pub s2: u64,
-    pub s3: u64,
+struct Quad {
+    s0: u64,
+    s1: u64,
+    s2: u64,
+    s3: u64,
 }
 
 fn wide(x: u32) -> u64
@@ -43,7 +43,7 @@ fn low(x: u64) -> u64
 }
 
 fn plus_product(s: u64, x: u64, y: u64) -> u64
-    requires { ⌜ Product s x y ⌝ }
+    requires { ⌜ ProductFits s x y ⌝ }
     ensures { λ r. ⌜ r ≡ s + x * y ⌝ }
 {
     s + low(x) * low(y)
@@ -71,7 +71,7 @@ fn four_sums(x: &[u64], c: &[u64]) -> Quad
 }
 
 fn reduced_sum(s: u64, t: u64, m: u32) -> u64
-    requires { ⌜ Reduced s t m ⌝ }
+    requires { ⌜ SumFits s t m ⌝ }
     ensures { λ r. ⌜ r ≡ (s + t) % m ⌝ }
 {
     (s + t) % wide(m)
@@ -85,27 +85,38 @@ fn block_end(i: usize, n: usize) -> usize
     if n - i <= BLOCK { n } else { i + BLOCK }
 }
 
-// The same for any number of products, modulo m: block after block, and a remainder after each.
+fn four_reduced(s: Quad, t: Quad, m: u32) -> Quad
+    requires { ⌜ SumsFit s t m ⌝ }
+    ensures { λ r. ⌜ Reduced s t m r ⌝ }
+{
+    Quad {
+        s0: reduced_sum(s.s0, t.s0, m),
+        s1: reduced_sum(s.s1, t.s1, m),
+        s2: reduced_sum(s.s2, t.s2, m),
+        s3: reduced_sum(s.s3, t.s3, m),
+    }
+}
+
+// As four_sums, for any number of products, and modulo m: block after block, with a remainder after each.
 fn four_entries(x: &[u64], c: &[u64], m: u32) -> Quad
     requires { ⌜ AnyLength (now x) (now c) m ⌝ }
     ensures { λ r. ⌜ Four (λ j. along (now (x .entry)) (now (c .entry)) j % m) r ⌝ }
 {
     let n = x.len();
-    let mut s0: u64 = 0;
-    let mut s1: u64 = 0;
-    let mut s2: u64 = 0;
-    let mut s3: u64 = 0;
+    let mut s = Quad {
+        s0: 0,
+        s1: 0,
+        s2: 0,
+        s3: 0,
+    };
     let mut i = 0;
     while i < n {
         let e = block_end(i, n);
-        let q = four_sums(&x[i..e], &c[i..]);
-        s0 = reduced_sum(s0, q.s0, m);
-        s1 = reduced_sum(s1, q.s1, m);
-        s2 = reduced_sum(s2, q.s2, m);
-        s3 = reduced_sum(s3, q.s3, m);
+        let t = four_sums(&x[i..e], &c[i..]);
+        s = four_reduced(s, t, m);
         i = e;
     }
-    Quad { s0, s1, s2, s3 }
+    s
 }
 
 // v at k, unless out ends before k.
@@ -118,6 +129,16 @@ fn put(out: &mut [u32], k: usize, v: u64)
     }
 }
 
+fn put_four(out: &mut [u32], k: usize, q: Quad)
+    requires { ⌜ Words k q ⌝ }
+    ensures { λ _. ⌜ now (out .exit) ≡ set (set (set (set (now (out .entry)) k (q .s0)) (k + 1) (q .s1)) (k + 2) (q .s2)) (k + 3) (q .s3) ⌝ }
+{
+    put(out, k, q.s0);
+    put(out, k + 1, q.s1);
+    put(out, k + 2, q.s2);
+    put(out, k + 3, q.s3);
+}
+
 // Entry k is x along d from k + 1 on.
 fn entries(x: &[u64], d: &[u64], m: u32, out: &mut [u32])
     requires { ⌜ Rows (now x) (now d) m (now out) ⌝ }
@@ -128,10 +149,7 @@ fn entries(x: &[u64], d: &[u64], m: u32, out: &mut [u32])
     while k < n {
         let from = k + 1;
         let q = four_entries(x, &d[from..], m);
-        put(out, k, q.s0);
-        put(out, k + 1, q.s1);
-        put(out, k + 2, q.s2);
-        put(out, k + 3, q.s3);
+        put_four(out, k, q);
         k += 4;
     }
 }
@@ -162,7 +180,7 @@ fn lay_once(b: &[u32], d: &mut [u64])
 
 // b around and around, as far as d goes.
 fn lay_around(b: &[u32], d: &mut [u64])
-    requires { ⌜ (0 < length (now b)) × (length (now b) ≤ length (now d)) ⌝ }
+    requires { ⌜ Holds (now b) (now d) ⌝ }
     ensures { λ _. ⌜ now (d .exit) ≡ around (length (now (d .entry))) (now (b .entry)) ⌝ }
 {
     let n = b.len();
@@ -204,6 +222,7 @@ fn convolve_many(a: &[u32], b: &[u32], m: u32, out: &mut [u32])
     convolve_in(a, b, m, &mut x, &mut d, out);
 }
 
+// Entry k of out becomes the sum over i of a_i times b_((k-i) mod n), modulo m.
 pub fn convolve(a: &[u32], b: &[u32], m: u32, out: &mut [u32])
     requires { ⌜ Mixable (now a) (now b) m (now out) ⌝ }
     ensures { λ _. ⌜ now (out .exit) ≡ mix (length (now (a .entry))) m (now (a .entry)) (now (b .entry)) ⌝ }

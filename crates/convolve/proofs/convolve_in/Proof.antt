@@ -37,7 +37,7 @@ lay-around-requires : tie.Need-lay-around-requires
 lay-around-requires c κs =
     let s = c .before .before .before .before .before .before .before .before .before .before in
     let e = length-take-le (length (s .args .a .now) + length (s .args .a .now) + 3) (s .args .d .now) (omega arith) in
-    (omega arith, omega arith)
+    record { least = omega arith; room = omega arith }
 
 slice-reshare-prefix-entries : tie.Need-slice-reshare-prefix-entries
 slice-reshare-prefix-entries c = search needs

@@ -1,9 +1,9 @@
--- `convolve::entries` meets its contract: the output is filled up to k. Assumes nothing.
-use Prim.Native.Nat.{ℕ, _+_, _-_, _%_, _≤_}
+-- `convolve::entries` meets its contract: the output is filled up to k, and four entries more in each turn. Assumes nothing.
+use Prim.Native.Nat.{_+_, _-_, _%_}
 use mathlib.Core.Path.{_≡_, refl}
 use lib.ListN.{length}
 use Rattle.convolve.specs.Layout.{along}
-use Rattle.convolve.proofs.Output.{rows-ready, entry-is, entry-word, Filled, filled-none, filled-next, filled-all}
+use Rattle.convolve.proofs.Output.{rows-ready, entries-are, entry-words, Filled, filled-none, filled-four, filled-all}
 use borrow.Author.Needs.{needs}
 use native.Mathlib.Omega.{arith}
 use Rattle.convolve.proofs.entries.Statement.{statement}
@@ -16,7 +16,7 @@ abbrev μ-loop : tie.MeasureT-loop
 μ-loop x d m out₀ n k₀ out k = length x - k
 
 loop-holds : tie.Need-loop-holds Inv-loop μ-loop
-loop-holds c = (filled-none _ (c .before .before .before .args .out .now), refl)
+loop-holds c = (filled-none _ _, refl)
 
 add-from : tie.Need-add-from Inv-loop μ-loop
 add-from c = search needs
@@ -39,38 +39,16 @@ four-entries-requires c κs =
     let s = l .before .before .before .before in
     rows-ready (s .args .x .now) (s .args .d .now) (s .args .m) (s .args .out .now) (l .loop .k + 1) (s .pre) (omega arith)
 
-put-requires : tie.Need-put-requires Inv-loop μ-loop
-put-requires c κs =
+put-four-requires : tie.Need-put-four-requires Inv-loop μ-loop
+put-four-requires c κs =
     let f = c .before in
-    let s = f .before .before .before .before .before .before .before in
-    entry-word (s .args .m) _ _ (s .pre .positive) (s .fits .m .fits) (f .four-entries .ensures .at0)
-
-add-put : tie.Need-add-put Inv-loop μ-loop
-add-put c = search needs
-
-put-requires-2 : tie.Need-put-requires-2 Inv-loop μ-loop
-put-requires-2 c κs =
-    let f = c .before .before .before .before .before in
-    let s = f .before .before .before .before .before .before .before in
-    entry-word (s .args .m) _ _ (s .pre .positive) (s .fits .m .fits) (f .four-entries .ensures .at1)
-
-add-put-2 : tie.Need-add-put-2 Inv-loop μ-loop
-add-put-2 c = search needs
-
-put-requires-3 : tie.Need-put-requires-3 Inv-loop μ-loop
-put-requires-3 c κs =
-    let f = c .before .before .before .before .before .before .before .before .before in
-    let s = f .before .before .before .before .before .before .before in
-    entry-word (s .args .m) _ _ (s .pre .positive) (s .fits .m .fits) (f .four-entries .ensures .at2)
-
-add-put-3 : tie.Need-add-put-3 Inv-loop μ-loop
-add-put-3 c = search needs
-
-put-requires-4 : tie.Need-put-requires-4 Inv-loop μ-loop
-put-requires-4 c κs =
-    let f = c .before .before .before .before .before .before .before .before .before .before .before .before .before in
-    let s = f .before .before .before .before .before .before .before in
-    entry-word (s .args .m) _ _ (s .pre .positive) (s .fits .m .fits) (f .four-entries .ensures .at3)
+    let l = f .before .before .before in
+    let s = l .before .before .before .before in
+    let x = s .args .x .now in
+    let d = s .args .d .now in
+    let m = s .args .m in
+    let q = entries-are x d m (l .loop .k) (f .four-entries .result) (f .four-entries .ensures) in
+    entry-words x d m (l .loop .k) (f .four-entries .result) (s .pre .positive) (s .fits .m .fits) (omega arith) q
 
 add-k : tie.Need-add-k Inv-loop μ-loop
 add-k c = search needs
@@ -80,22 +58,14 @@ loop-less c = search needs
 
 loop-again : tie.Need-loop-again Inv-loop μ-loop
 loop-again c =
-    let f = c .before .before .before .before .before .before .before .before .before .before .before .before .before .before .before .before in
+    let f = c .before .before .before .before in
     let l = f .before .before .before in
     let s = l .before .before .before .before in
-    let k = l .loop .k in
-    let is = entry-is (s .args .x .now) (s .args .d .now) (s .args .m) (k + 1) in
-    let next = filled-next (λ i. along (s .args .x .now) (s .args .d .now) (i + 1) % s .args .m) in
-    let p0 = c .before .before .before .before .before .before .before .before .before .before .before .before .before .before .put in
-    let p1 = c .before .before .before .before .before .before .before .before .before .before .put2 in
-    let p2 = c .before .before .before .before .before .before .put3 in
-    let p3 = c .before .before .put4 in (
-      next (p2 .last .0) (p3 .last .0) (k + 3) (k + 4) _ (omega arith) (p3 .ensures) (is 3 (k + 3 + 1) _ (omega arith) (f .four-entries .ensures .at3)) (
-          next (p1 .last .0) (p2 .last .0) (k + 2) (k + 3) _ (omega arith) (p2 .ensures) (is 2 (k + 2 + 1) _ (omega arith) (f .four-entries .ensures .at2)) (
-          next (p0 .last .0) (p1 .last .0) (k + 1) (k + 2) _ (omega arith) (p1 .ensures) (is 1 (k + 1 + 1) _ (omega arith) (f .four-entries .ensures .at1)) (
-          next (l .loop .out) (p0 .last .0) k (k + 1) _ (omega arith) (p0 .ensures) (is 0 (k + 1) _ (omega arith) (f .four-entries .ensures .at0)) (l .loop .inv .0)))),
-      omega arith,
-    )
+    let x = s .args .x .now in
+    let d = s .args .d .now in
+    let m = s .args .m in
+    let q = entries-are x d m (l .loop .k) (f .four-entries .result) (f .four-entries .ensures) in
+    (filled-four (λ i. along x d (i + 1) % m) (l .loop .out) _ (l .loop .k) _ (c .before .before .put-four .ensures) q (l .loop .inv .0), omega arith)
 
 same-length : tie.Need-same-length Inv-loop μ-loop
 same-length c = search needs
@@ -104,7 +74,7 @@ returns : tie.Need-returns Inv-loop μ-loop
 returns c =
     let l = c .before in
     let s = l .before .before .before .before in
-    filled-all (λ i. along (s .args .x .now) (s .args .d .now) (i + 1) % s .args .m) (l .loop .out) (l .loop .k) (length (s .args .out .now)) (omega arith) (omega arith) (l .loop .inv .0)
+    filled-all (λ i. along (s .args .x .now) (s .args .d .now) (i + 1) % s .args .m) _ _ _ (omega arith) (omega arith) (l .loop .inv .0)
 
 pub entries-spec : {M : Type 1} → statement M
 entries-spec =
@@ -119,13 +89,7 @@ entries-spec =
     part-four-entries-start
     part-four-entries-end
     four-entries-requires
-    put-requires
-    add-put
-    put-requires-2
-    add-put-2
-    put-requires-3
-    add-put-3
-    put-requires-4
+    put-four-requires
     add-k
     loop-less
     loop-again

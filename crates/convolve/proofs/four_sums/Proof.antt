@@ -1,5 +1,5 @@
 -- `convolve::four_sums` meets its contract: after i turns each sum has its first i products, and a block of them fits a word. Assumes nothing.
-use Prim.Native.Nat.{_+_, _-_, _≤_}
+use Prim.Native.Nat.{_-_, _≤_}
 use mathlib.Core.Path.{_≡_, refl}
 use lib.ListN.{length}
 use Rattle.sums.specs.Sum.{sum}

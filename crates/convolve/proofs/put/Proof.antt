@@ -1,7 +1,6 @@
 -- `convolve::put` meets its contract: a store past the end changes nothing. Assumes nothing.
 use mathlib.Core.Path.{sym}
 use lib.Seq.{set-out}
-use native.Mathlib.Omega.{arith}
 use borrow.Author.Needs.{needs}
 use Rattle.convolve.proofs.put.Statement.{statement}
 use Rattle.convolve.proofs.put.Tie as tie

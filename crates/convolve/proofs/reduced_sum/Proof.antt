@@ -1,5 +1,4 @@
 -- `convolve::reduced_sum` meets its contract. Assumes nothing.
-use native.Mathlib.Omega.{arith}
 use borrow.Author.Needs.{needs}
 use Rattle.convolve.proofs.reduced_sum.Statement.{statement}
 use Rattle.convolve.proofs.reduced_sum.Tie as tie

@@ -9,12 +9,13 @@ use Rattle.convolve.specs.Block.{block, few}
 use Rattle.convolve.specs.Mixable.{Mixable}
 
 -- Factors of 32 bits, and room for their product on top of s.
-pub record Product (s x y : ℕ) : Type 0 where
+pub record ProductFits (s x y : ℕ) : Type 0 where
   pub word-x : x < 2 ^ 32
   pub word-y : y < 2 ^ 32
   pub fits : s + x * y < 2 ^ 64
 
-pub record Reduced (s t m : ℕ) : Type 0 where
+-- A sum that fits, and can be reduced by m.
+pub record SumFits (s t m : ℕ) : Type 0 where
   pub positive : 0 < m
   pub fits : s + t < 2 ^ 64
 
@@ -35,6 +36,7 @@ pub record BlockEnd (i n r : ℕ) : Type 0 where
   pub within : r ≤ n
   pub short : r ≤ i + block
 
+-- The same with x of any length, and a modulus.
 pub record AnyLength (x c : List ℕ) (m : ℕ) : Type 0 where
   pub reach : length x + 3 ≤ length c
   pub low-x : Low x
@@ -51,6 +53,12 @@ pub record Rows (x d : List ℕ) (m : ℕ) (out : List ℕ) : Type 0 where
   pub positive : 0 < m
   pub limit : m ≤ most-modulus
 
+-- b is not empty, and d holds it at least once.
+pub record Holds (b d : List ℕ) : Type 0 where
+  pub least : 1 ≤ length b
+  pub room : length b ≤ length d
+
+-- x and d have room for both layouts.
 pub record Room (a b : List ℕ) (m : ℕ) (x d out : List ℕ) : Type 0 where
   pub mixable : Mixable a b m out
   pub room-x : length a ≤ length x
