@@ -9,7 +9,7 @@ use native.Mathlib.Nat.{dvd-of-mod-eq-zero}
 use borrow.Author.Tests.{ltb-false, eqb-false, eqb-true, not-false}
 use lib.Dec.{eqb, ltb}
 use lib.ListN.{length}
-use Rattle.ring.specs.Limits.{most-entries, least-modulus, most-modulus}
+use Rattle.limits.specs.Limits.{most-entries, least-modulus, most-modulus}
 use Rattle.ring.specs.Ring.{Ring}
 use Rattle.answer.specs.Checks.{refuse-if, empty, large, mismatch, modulus, first-high, coefficient, divisor, room}
 use Rattle.answer.specs.Order.{or, first, mismatches, coefficients, order}

@@ -3,7 +3,7 @@
 use Prim.Native.Nat.{ℕ, suc}
 use mathlib.Core.List.{List, [], _∷_, _++_}
 use lib.ListN.{length}
-use Rattle.ring.specs.Limits.{most-entries, least-modulus, most-modulus}
+use Rattle.limits.specs.Limits.{most-entries, least-modulus, most-modulus}
 use Rattle.answer.specs.Checks.{empty, large, mismatch, modulus, coefficient}
 use Rattle.answer.specs.declared.Check.{Check}
 use Rattle.answer.specs.declared.Check.the-variants.{Passed, Refused}

@@ -1,7 +1,7 @@
 // What a call can answer, and the checks that every call shares.
-use ring::LEAST_MODULUS;
-use ring::MOST_ENTRIES;
-use ring::MOST_MODULUS;
+use limits::LEAST_MODULUS;
+use limits::MOST_ENTRIES;
+use limits::MOST_MODULUS;
 ghost use mathlib.Core.Path.{_≡_};
 ghost use mathlib.Core.List.{[], _∷_};
 ghost use Prim.Native.Nat.{_<_};

@@ -5,7 +5,7 @@ use mathlib.Core.Path.{_≡_}
 use mathlib.Core.List.{List, [], _∷_}
 use native.Mathlib.Omega.{arith}
 use lib.ListN.{length}
-use Rattle.ring.specs.Limits.{least-modulus}
+use Rattle.limits.specs.Limits.{least-modulus}
 use Rattle.convolve.specs.Mixable.{Mixable}
 use Rattle.convolve.proofs.Rings.{rings-mixable}
 use Rattle.answer.specs.Checks.{room, divisor}

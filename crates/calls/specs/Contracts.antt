@@ -3,7 +3,7 @@
 use Prim.Native.Nat.{ℕ}
 use mathlib.Core.List.{List, [], _∷_}
 use lib.ListN.{length}
-use Rattle.ring.specs.Limits.{least-modulus}
+use Rattle.limits.specs.Limits.{least-modulus}
 use Rattle.ring.specs.Mix.{mix}
 use Rattle.ring.specs.Reduce.{reduce}
 use Rattle.ring.specs.Fold.{fold}

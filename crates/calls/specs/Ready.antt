@@ -3,7 +3,7 @@ use Prim.Native.Nat.{ℕ, _*_, _≤_, _<_, _∣_}
 use mathlib.Core.Path.{_≡_}
 use mathlib.Core.List.{List}
 use lib.ListN.{length}
-use Rattle.ring.specs.Limits.{most-entries}
+use Rattle.limits.specs.Limits.{most-entries}
 
 pub record Reducible (a : List ℕ) (m′ : ℕ) (out : List ℕ) : Type 0 where
   pub modulus : 0 < m′

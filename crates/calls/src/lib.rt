@@ -6,7 +6,7 @@ use answer::check_ring;
 use answer::check_rings;
 use answer::check_room;
 use convolve::convolve;
-use ring::LEAST_MODULUS;
+use limits::LEAST_MODULUS;
 ghost use mathlib.Core.Path.{_≡_};
 ghost use Prim.Native.Nat.{_+_, _*_};
 ghost use lib.ListN.{length};

@@ -11,7 +11,7 @@ use lib.Seq.{getD-take, getD-drop}
 use Rattle.sums.specs.Sum.{sum}
 use Rattle.sums.specs.Table.{at}
 use Rattle.sums.proofs.Sums.{sum-none, sum-last, sum-le, sum-eq, sum-append}
-use Rattle.ring.specs.Limits.{most-modulus}
+use Rattle.limits.specs.Limits.{most-modulus}
 use Rattle.convolve.specs.Block.{block}
 use Rattle.convolve.specs.Layout.{term, along}
 use Rattle.convolve.specs.declared.Quad.{Quad}

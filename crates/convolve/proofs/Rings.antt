@@ -7,7 +7,7 @@ use native.Mathlib.Decide.{decLt}
 use lib.ListN.{length}
 use Rattle.sums.specs.Table.{at}
 use Rattle.sums.proofs.Tables.{at-past}
-use Rattle.ring.specs.Limits.{most-entries, most-modulus}
+use Rattle.limits.specs.Limits.{most-entries, most-modulus}
 use Rattle.ring.specs.Ring.{Ring}
 use Rattle.convolve.specs.Mixable.{Mixable}
 

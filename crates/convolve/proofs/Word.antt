@@ -2,7 +2,7 @@
 -- Assumes nothing.
 use Prim.Native.Nat.{ℕ, _+_, _*_, _-_, _^_, _≤_, _<_}
 use lib.Dec.{lit<, lit≤}
-use Rattle.ring.specs.Limits.{most-modulus}
+use Rattle.limits.specs.Limits.{most-modulus}
 use Rattle.convolve.specs.Block.{block}
 
 -- B (M - 1)² + (M - 1): a block of the largest products, and a remainder beside it.

@@ -4,7 +4,7 @@ use mathlib.Core.Path.{_≡_}
 use mathlib.Core.List.{List}
 use lib.ListN.{length}
 use Rattle.sums.specs.Table.{at}
-use Rattle.ring.specs.Limits.{most-modulus}
+use Rattle.limits.specs.Limits.{most-modulus}
 use Rattle.convolve.specs.Block.{block, few}
 use Rattle.convolve.specs.Mixable.{Mixable}
 

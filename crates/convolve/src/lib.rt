@@ -3,7 +3,7 @@
 // a is laid out backwards, and b around and around; both in words of 64 bits. Entry k of the product is then a backwards
 // along the part of b that starts at k + 1: no place wraps inside a sum, and four sums at a time share what they read.
 // A sum is added first and reduced last; where it has more than BLOCK products, it is reduced once a block.
-use ring::MOST_ENTRIES;
+use limits::MOST_ENTRIES;
 ghost use mathlib.Core.Path.{_≡_};
 ghost use mathlib.Core.List.{_++_};
 ghost use Prim.Native.Nat.{_+_, _-_, _*_, _%_, _^_, _<_, _≤_};

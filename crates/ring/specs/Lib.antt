@@ -1,4 +1,3 @@
-pub mod Limits
 pub mod Ring
 pub mod Mix
 pub mod One

@@ -3,7 +3,7 @@
 use mathlib.Core.Path.{_≡_, _∙_}
 use lib.ListN.{length}
 use denote.Ref.{now}
-use Rattle.ring.specs.Limits.{most-entries, least-modulus, most-modulus}
+use Rattle.limits.specs.Limits.{most-entries, least-modulus, most-modulus}
 use Rattle.answer.specs.Checks.{empty, large, mismatch, modulus}
 use Rattle.answer.specs.Order.{or}
 use Rattle.answer.proofs.Orders.{or-go-on, or-stop, order-rings}

@@ -1,7 +1,7 @@
 -- `calls::check_reduce` meets its contract: the checks of the ring, then room, then divisor. Assumes nothing.
 use mathlib.Core.List.{[]}
 use lib.ListN.{length}
-use Rattle.ring.specs.Limits.{least-modulus}
+use Rattle.limits.specs.Limits.{least-modulus}
 use Rattle.answer.specs.Checks.{room, divisor}
 use Rattle.answer.specs.Order.{no-list}
 use Rattle.answer.proofs.Orders.{order-two}

@@ -1,0 +1,7 @@
+// The limits of document 01, for the code; specs/Limits.antt has the same names for contracts.
+
+pub const MOST_ENTRIES: usize = 1024;
+
+pub const LEAST_MODULUS: u32 = 2;
+
+pub const MOST_MODULUS: u32 = 1_000_000;
