@@ -11,10 +11,13 @@ use lib.Dec.{eqb, ltb}
 use lib.ListN.{length}
 use Rattle.limits.specs.Limits.{most-entries, least-modulus, most-modulus}
 use Rattle.ring.specs.Ring.{Ring}
+use Rattle.modular.specs.FactorList.{FactorList}
+use Rattle.modular.proofs.Decide.{factor-list?}
 use Rattle.answer.specs.Checks.{refuse-if, empty, large, mismatch, modulus, first-high, coefficient, divisor, room}
+use Rattle.answer.specs.Factors.{fails, factors}
 use Rattle.answer.specs.Order.{or, first, mismatches, coefficients, order}
 use Rattle.answer.specs.declared.Case.{Case}
-use Rattle.answer.specs.declared.Case.the-variants.{Mismatch, Coefficient, Room, Divisor}
+use Rattle.answer.specs.declared.Case.the-variants.{Mismatch, Factors, Coefficient, Room, Divisor}
 use Rattle.answer.specs.declared.Refusal.{Refusal}
 use Rattle.answer.specs.declared.Check.{Check}
 use Rattle.answer.specs.declared.Check.the-variants.{Passed, Refused}
@@ -68,6 +71,14 @@ pub divisor-passes : (least n d : ℕ) → divisor least n d ≡ Passed → (lea
 divisor-passes least n d e =
     let x = neither (ltb d least) (not (eqb (n % d) 0)) (passes _ Divisor 0 0 e) in
     (ltb-false d least (x .0), dvd-of-mod-eq-zero d (equal (n % d) 0 (x .1)))
+
+pub factors-passes : (m : ℕ) (ps es : List ℕ) → factors m ps es ≡ Passed → FactorList m ps es
+unfolding factors
+factors-passes m ps es e = listed (factor-list? m ps es) (passes _ Factors 0 0 e)
+  where
+    listed : (d : Dec (FactorList m ps es)) → fails d ≡ false → FactorList m ps es
+    listed (yes h) z = h
+    listed (no h) z = absurd (let w : _≡_ {A = ℕ} 0 1 = cc in omega arith)
 
 -- ---- the order
 

@@ -1,4 +1,4 @@
--- The checks 1 to 8 of document 01's table, but for 5, the factor list's, which stands with factor lists. Limits are arguments.
+-- The checks 1 to 8 of document 01's table, but for 5, which is in Factors.antt. Limits are arguments.
 use Prim.Native.Nat.{ℕ, zero, suc, _%_}
 use mathlib.Core.Bool.{Bool, true, false, not, _||_}
 use mathlib.Core.List.{List, [], _∷_}

@@ -2,11 +2,13 @@
 use limits::LEAST_MODULUS;
 use limits::MOST_ENTRIES;
 use limits::MOST_MODULUS;
+use modular::factor::factor_fault;
 ghost use mathlib.Core.Path.{_≡_};
 ghost use mathlib.Core.List.{[], _∷_};
 ghost use Prim.Native.Nat.{_<_};
 ghost use Rattle.answer.specs.Order.{or, first, order};
 ghost use Rattle.answer.specs.Checks.{refuse-if, empty, large, mismatch, modulus, first-high, coefficient, room, divisor};
+ghost use Rattle.answer.specs.Factors.{factors};
 ghost use Rattle.answer.specs.Reply.{refusal-reply, reply};
 
 // The refusals of document 01's table by name.
@@ -94,6 +96,12 @@ pub fn check_modulus(m: u32, least: u32, most: u32) -> Check
     ensures { λ r. ⌜ r ≡ modulus least most m ⌝ }
 {
     refuse_if(m < least, Case::Modulus, 0, 0).or(refuse_if(most < m, Case::Modulus, 0, 0))
+}
+
+pub fn check_factors(primes: &[u32], exponents: &[u8], m: u32) -> Check
+    ensures { λ r. ⌜ r ≡ factors m (now (primes .entry)) (now (exponents .entry)) ⌝ }
+{
+    refuse_if(factor_fault(primes, exponents, m), Case::Factors, 0, 0)
 }
 
 // The place of the first entry that is m or more; the length where there is none.

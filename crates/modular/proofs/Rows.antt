@@ -1,0 +1,92 @@
+-- A loop over the front of a row: entry k is not yet changed in turn k, and where the terms past the front are 0 the rest is right as it came.
+-- Assumes nothing.
+use Prim.Native.Nat.{ℕ, zero, suc, _+_, _*_, _-_, _%_, _≤_, _<_}
+use mathlib.Core.Path.{_≡_, sym, ap, _∙_}
+use mathlib.Core.List.{List, _∷_, _++_}
+use native.Mathlib.Omega.{arith}
+use native.Mathlib.Decide.{decLt}
+use native.Mathlib.Nat.{mod-lt, mod-eq-of-lt, zero-mod, add-zero, mul-zero}
+use native.Mathlib.Numerals.{add-one}
+use lib.ListN.{length, drop, set, List·getD-append}
+use lib.Seq.{drop-cons, getD-at, getD-append-add, getD-drop, ext-getD}
+use Rattle.sums.specs.Table.{at, table}
+use Rattle.sums.proofs.Tables.{at-past, length-table, at-table, table-low}
+use Rattle.sums.proofs.Fill.{fill-step, fill-length}
+use Rattle.modular.specs.Row.{times, times-linear, terms, plus}
+
+-- A turn of the loop: it reads entry k of a, which is as it came, and stores entry k of the answer.
+module _ (f : ℕ → ℕ) (d : List ℕ) (k : ℕ) (h : k < length d) {a : List ℕ} (e : a ≡ table k f ++ drop k d) where
+  pub fill-read : at a k ≡ at d k
+  fill-read = ap (λ (l : List ℕ). at l k) e ∙ rw (drop-cons d k 0) (getD-at (table k f) (at d k) _ 0 k (length-table k f))
+
+  pub fill-store : {v : ℕ} → v ≡ f k → set a k v ≡ table (k + 1) f ++ drop (k + 1) d
+  fill-store q = (λ i. set (e i) k (q i)) ∙ fill-step f d k h
+
+pub fill-rest : (f : ℕ → ℕ) (d : List ℕ) (k : ℕ) → k ≤ length d → ((i : ℕ) → k ≤ i → f i ≡ at d i) → table k f ++ drop k d ≡ table (length d) f
+fill-rest f d k l h = ext-getD 0 (table k f ++ drop k d) (table (length d) f) (fill-length f d k l ∙ sym (length-table (length d) f)) each
+  where
+    past : (i : ℕ) → k ≤ i → at (table k f ++ drop k d) i ≡ at d i
+    past i g = ap (λ (j : ℕ). at (table k f ++ drop k d) j) (omega (arith, length-table k f)) ∙ getD-append-add (table k f) (drop k d) (i - k) 0 ∙ getD-drop k d (i - k) 0
+        ∙ ap (λ (j : ℕ). at d j) (omega arith)
+
+    each : (i : ℕ) → i < length (table k f ++ drop k d) → at (table k f ++ drop k d) i ≡ at (table (length d) f) i
+    each i b = let c : i < length d = omega (arith, fill-length f d k l) in elim (decLt i k) [
+      | yes s ↦ List·getD-append (table k f) (drop k d) 0 i (omega (arith, length-table k f)) ∙ at-table k f i s ∙ sym (at-table (length d) f i c)
+      | no s ↦ past i (omega arith) ∙ sym (h i (omega arith)) ∙ sym (at-table (length d) f i c)
+    ]
+
+-- Entry i of a row plus terms.
+abbrev pub plus-at : ℕ → List ℕ → (ℕ → ℕ) → ℕ → ℕ
+plus-at p d t i = (at d i + t i) % p
+
+pub plus-value : (p : ℕ) {x y z t r : ℕ} → r ≡ (x + z) % p → x ≡ y → z ≡ t → r ≡ (y + t) % p
+plus-value p e a b = e ∙ (λ i. (a i + b i) % p)
+
+-- The loop is over when no term is left.
+pub plus-all : (p : ℕ) (d : List ℕ) (t : ℕ → ℕ) (k : ℕ) → k ≤ length d → ((i : ℕ) → at d i < p) → ((i : ℕ) → k ≤ i → t i ≡ 0) → table k (plus-at p d t) ++ drop k d ≡ plus p d t
+unfolding plus
+plus-all p d t k l low none = fill-rest (plus-at p d t) d k l (λ i g. ap (λ (x : ℕ). (at d i + x) % p) (none i g) ∙ ap (λ (x : ℕ). x % p) (add-zero (at d i)) ∙ mod-eq-of-lt (low i))
+
+-- Past its end a row has no terms.
+pub times-past : (q : ℕ) (l : List ℕ) (i : ℕ) → length l ≤ i → times q l i ≡ 0
+times-past q l i h = ap (λ (x : ℕ). q * x) (at-past l i h) ∙ mul-zero q
+
+-- What the answers hold, at every place: past the end there is 0 on both sides.
+module _ (p : ℕ) (l : List ℕ) (t : ℕ → ℕ) where
+  pub length-plus : length (plus p l t) ≡ length l
+  unfolding plus
+  length-plus = length-table (length l) (plus-at p l t)
+
+  pub at-plus : ((i : ℕ) → length l ≤ i → t i ≡ 0) → (i : ℕ) → at (plus p l t) i ≡ (at l i + t i) % p
+  unfolding plus
+  at-plus none i = elim (decLt i (length l)) [
+    | yes h ↦ at-table (length l) (plus-at p l t) i h
+    | no h ↦ at-past (plus p l t) i (omega (arith, length-plus)) ∙ sym (ap (λ (x : ℕ). x % p) (omega (arith, at-past l i (omega arith), none i (omega arith))) ∙ zero-mod p)
+  ]
+
+  pub plus-low : 0 < p → (i : ℕ) → at (plus p l t) i < p
+  unfolding plus
+  plus-low h = table-low (length l) p (plus-at p l t) h (λ i. mod-lt (at l i + t i) h)
+
+module _ (p f : ℕ) (l : List ℕ) where
+  pub at-scaled : (i : ℕ) → at (terms (length l) p (times f l)) i ≡ f * at l i % p
+  unfolding terms
+  at-scaled i = elim (decLt i (length l)) [
+    | yes h ↦ at-table (length l) (λ k. times f l k % p) i h
+    | no h ↦ at-past (terms (length l) p (times f l)) i (omega (arith, length-table (length l) (λ k. times f l k % p))) ∙ sym (ap (λ (x : ℕ). x % p) (times-past f l i (omega arith)) ∙ zero-mod p)
+  ]
+
+-- A row moved up by one place.
+pub up-next : (l : List ℕ) (i : ℕ) → at (0 ∷ l) (i + 1) ≡ at l i
+up-next l i = rw (add-one i)
+
+pub up-low : (p : ℕ) (l : List ℕ) → 0 < p → ((i : ℕ) → at l i < p) → (i : ℕ) → at (0 ∷ l) i < p
+up-low p l h low zero = h
+up-low p l h low (suc i) = low i
+
+pub times-linear-past : (q r : ℕ) (l : List ℕ) (i : ℕ) → length l < i → times-linear q r l i ≡ 0
+times-linear-past q r l zero h = omega arith
+times-linear-past q r l (suc i) h = omega (arith, times-past q l (suc i) (omega arith), times-past r l i (omega arith))
+
+pub times-linear-last : (q r : ℕ) (l : List ℕ) → times-linear q r l (length l) ≡ times r (0 ∷ l) (length l)
+times-linear-last q r l = omega (arith, times-past q l (length l) (omega arith))

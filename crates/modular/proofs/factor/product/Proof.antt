@@ -1,0 +1,73 @@
+-- `modular::factor::product` meets its contract. The loop's invariant: x is the product of the first i powers, or both are above m.
+-- The measure is what is left of the primes. Assumes nothing.
+use Prim.Native.Nat.{_-_, _≤_}
+use mathlib.Core.Path.{_≡_}
+use lib.ListN.{length}
+use Rattle.modular.proofs.Factors.{rising-same}
+use Rattle.modular.proofs.Faults.{left-split, Running, running-start, running-next, running-end}
+use borrow.Author.Needs.{needs}
+use native.Mathlib.Omega.{arith}
+use Rattle.modular.proofs.factor.product.Statement.{statement}
+use Rattle.modular.proofs.factor.product.Tie as tie
+
+abbrev Inv-loop : tie.InvT-loop
+Inv-loop primes exponents m x₀ i₀ x i = (i ≤ length primes) × Running m primes exponents i x
+
+abbrev μ-loop : tie.MeasureT-loop
+μ-loop primes exponents m x₀ i₀ x i = length primes - i
+
+-- Both lists are of one length.
+same : (s : tie.Start Inv-loop μ-loop) → length (s .args .primes .now) ≡ length (s .args .exponents .now)
+same s = rising-same 0 (s .args .primes .now) (s .args .exponents .now) (s .pre)
+
+loop-holds : tie.Need-loop-holds Inv-loop μ-loop
+loop-holds c = (omega arith, running-start _ _ _ (c .before .before .pre))
+
+mul-p : tie.Need-mul-p Inv-loop μ-loop
+mul-p c = search needs
+
+shared-slice-read-p : tie.Need-shared-slice-read-p Inv-loop μ-loop
+shared-slice-read-p c = search needs
+
+shared-slice-read-e : tie.Need-shared-slice-read-e Inv-loop μ-loop
+shared-slice-read-e c = omega (arith, same (c .before .before .before .before .before .before))
+
+times-power-requires : tie.Need-times-power-requires Inv-loop μ-loop
+times-power-requires c κs =
+    let s = c .before .before .before .before .before .before in
+    let v = c .before .before .before .loop in
+    omega (arith, left-split (s .args .primes .now) (s .args .exponents .now) (v .i) (omega arith) (omega (arith, same s)) (v .inv .1 .left) .0 .above)
+
+add-i : tie.Need-add-i Inv-loop μ-loop
+add-i c = search needs
+
+loop-less : tie.Need-loop-less Inv-loop μ-loop
+loop-less c = search needs
+
+loop-again : tie.Need-loop-again Inv-loop μ-loop
+loop-again c =
+    let s = c .before .before .before .before .before .before .before in
+    let v = c .before .before .before .before .loop in
+    (omega arith, running-next (s .args .m) (s .args .primes .now) (s .args .exponents .now) (v .i) (v .x) _ (omega arith) (omega (arith, same s)) (c .times-power .ensures) (v .inv .1))
+
+returns : tie.Need-returns Inv-loop μ-loop
+returns c =
+    let s = c .before .before .before .before in
+    let v = c .before .loop in
+    running-end (s .args .m) (s .args .primes .now) (s .args .exponents .now) (v .i) (v .x) (omega arith) (omega (arith, same s)) (v .inv .1)
+
+pub product-spec : {M : Type 1} → statement M
+product-spec =
+    tie.close
+    (tie.spec
+    Inv-loop
+    μ-loop
+    loop-holds
+    mul-p
+    shared-slice-read-p
+    shared-slice-read-e
+    times-power-requires
+    add-i
+    loop-less
+    loop-again
+    returns)

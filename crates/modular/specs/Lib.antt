@@ -1,0 +1,9 @@
+pub mod Prime
+pub mod Inverse
+pub mod Gcd
+pub mod Finds
+pub mod Row
+pub mod Near
+pub mod Rounds
+pub mod FactorList
+pub mod FactorFault
