@@ -2,6 +2,7 @@
 #ifndef CONTENDER_H
 #define CONTENDER_H
 
+#include <stdbool.h>
 #include <stddef.h>
 #include <stdint.h>
 
@@ -27,6 +28,14 @@ extern const struct contender plain_mixes;
 extern const struct contender flint_mixes;
 extern const struct contender ntl_mixes;
 extern const struct contender pari_mixes;
+
+/* These invert a modulo x^n - 1 and m, where m is a prime, and leave b alone. */
+extern const struct contender dowelbrook_inverts;
+extern const struct contender flint_inverts;
+extern const struct contender ntl_inverts;
+extern const struct contender pari_inverts;
+
+bool has_inverse(const uint32_t *a, size_t n, uint32_t m);
 
 #ifdef __cplusplus
 }

@@ -19,11 +19,15 @@ struct shape {
     uint32_t m;
 };
 
-/* The first contender is the one the others are measured against. Both lists end with a zero. */
+/*
+ * The first contender is the one the others are measured against. Both lists end with a zero.
+ * Input a is drawn again until it suits the job; without a test every input does.
+ */
 struct job {
     const char *name;
     const struct contender *contenders[MOST_CONTENDERS];
     const struct shape *shapes;
+    bool (*suits)(const uint32_t *a, size_t n, uint32_t m);
 };
 
 static const struct shape mix_shapes[] = {
@@ -31,6 +35,14 @@ static const struct shape mix_shapes[] = {
     {256, 1000000}, {512, 1000000}, {1021, 1000000}, {1024, 1000000}, {64, 10},
     {251, 10},      {1024, 10},     {64, 524288},    {251, 524288},   {1024, 524288},
     {64, 999983},   {251, 999983},  {1024, 999983},  {0, 0},
+};
+
+static const struct shape invert_shapes[] = {
+    {16, 2},       {61, 2},        {64, 2},        {128, 2},       {251, 2},      {256, 2},
+    {512, 2},      {1021, 2},      {1024, 2},      {16, 17},       {61, 17},      {64, 17},
+    {128, 17},     {251, 17},      {256, 17},      {512, 17},      {1021, 17},    {1024, 17},
+    {16, 999983},  {61, 999983},   {64, 999983},   {128, 999983},  {251, 999983}, {256, 999983},
+    {512, 999983}, {1021, 999983}, {1024, 999983}, {0, 0},
 };
 
 static const struct job jobs[] = {
@@ -46,7 +58,22 @@ static const struct job jobs[] = {
       &pari_mixes,
 #endif
      },
-     mix_shapes},
+     mix_shapes,
+     NULL},
+    {"invert",
+     {&dowelbrook_inverts,
+#ifdef HAVE_FLINT
+      &flint_inverts,
+#endif
+#ifdef HAVE_NTL
+      &ntl_inverts,
+#endif
+#ifdef HAVE_PARI
+      &pari_inverts,
+#endif
+     },
+     invert_shapes,
+     has_inverse},
 };
 
 static void draw(uint32_t *ring, size_t n, uint32_t m) {
@@ -118,7 +145,9 @@ static void print_head(const struct job *job) {
 static void measure(const struct job *job, struct shape shape) {
     static uint32_t a[MOST_ENTRIES], b[MOST_ENTRIES];
     double best[MOST_CONTENDERS];
-    draw(a, shape.n, shape.m);
+    do
+        draw(a, shape.n, shape.m);
+    while (job->suits && !job->suits(a, shape.n, shape.m));
     draw(b, shape.n, shape.m);
     for (int c = 0; job->contenders[c]; c++)
         job->contenders[c]->set(a, b, shape.n, shape.m);

@@ -1,9 +1,11 @@
-// NTL: mul in zz_pX, whose modulus need not be prime for this, then the upper half folded down.
+// NTL, in zz_pX. Mixes by mul, for which the modulus need not be prime, then the upper half folded
+// down. Inverts by InvMod: XGCD takes as long. It stops with an error where there is no inverse. For
+// the modulus 2 there is a type of its own, GF2X, which is not used here.
 #include <NTL/lzz_pX.h>
 
 #include "contender.h"
 
-static NTL::zz_pX left, right, product;
+static NTL::zz_pX left, right, circle, result;
 static long length;
 
 static NTL::zz_pX polynomial(const uint32_t *entries, long n) {
@@ -18,22 +20,26 @@ static void set(const uint32_t *a, const uint32_t *b, size_t n, uint32_t m) {
     length = static_cast<long>(n);
     left = polynomial(a, length);
     right = polynomial(b, length);
+    circle = NTL::zz_pX(length, 1) - 1;
 }
 
 static void mix() {
-    NTL::mul(product, left, right);
-    long full = product.rep.length();
+    NTL::mul(result, left, right);
+    long full = result.rep.length();
     if (full <= length)
         return;
     for (long i = length; i < full; i++)
-        product.rep[i - length] += product.rep[i];
-    product.rep.SetLength(length);
-    product.normalize();
+        result.rep[i - length] += result.rep[i];
+    result.rep.SetLength(length);
+    result.normalize();
 }
+
+static void invert() { NTL::InvMod(result, left, circle); }
 
 static void get(uint32_t *out) {
     for (long i = 0; i < length; i++)
-        out[i] = static_cast<uint32_t>(NTL::rep(NTL::coeff(product, i)));
+        out[i] = static_cast<uint32_t>(NTL::rep(NTL::coeff(result, i)));
 }
 
 const struct contender ntl_mixes = {"NTL", set, mix, get};
+const struct contender ntl_inverts = {"NTL", set, invert, get};

@@ -1,5 +1,6 @@
-/* The header is C99, and its reply is laid out as src/door.rs says. */
+/* The headers are C99, and their structs are laid out as src/door.rs and src/probe/door.rs say. */
 #include "../include/dowelbrook.h"
+#include "probe.h"
 
 #define HOLDS(name, fact) typedef char name[(fact) ? 1 : -1]
 
@@ -8,3 +9,12 @@ HOLDS(then_prime, offsetof(dowelbrook_reply, prime) == 4);
 HOLDS(then_ring, offsetof(dowelbrook_reply, ring) == 8);
 HOLDS(then_place, offsetof(dowelbrook_reply, place) == 16);
 HOLDS(no_more, sizeof(dowelbrook_reply) == 24);
+
+HOLDS(kind_first, offsetof(probe_number, kind) == 0);
+HOLDS(then_value, offsetof(probe_number, value) == 4);
+HOLDS(no_more_of_a_number, sizeof(probe_number) == 8);
+
+HOLDS(kind_first_too, offsetof(probe_outcome, kind) == 0);
+HOLDS(then_zero, offsetof(probe_outcome, zero) == 4);
+HOLDS(then_degree, offsetof(probe_outcome, degree) == 8);
+HOLDS(no_more_of_an_outcome, sizeof(probe_outcome) == 16);

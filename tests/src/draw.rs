@@ -63,7 +63,7 @@ fn modulus(faults: &[Number], random: &mut Random) -> u32 {
 }
 
 /// n entries below m: all sorts, mostly 0, near the ends, or all the largest.
-fn ring(n: usize, m: u32, random: &mut Random) -> Vec<u32> {
+pub fn ring(n: usize, m: u32, random: &mut Random) -> Vec<u32> {
     let top = m.saturating_sub(1);
     let kind = random.below(8);
     let entry = |_| match kind {
@@ -102,7 +102,7 @@ fn spoil_entries(case: &mut Case, random: &mut Random) {
 }
 
 /// A length that is not n.
-fn other_length(n: usize, random: &mut Random) -> usize {
+pub fn other_length(n: usize, random: &mut Random) -> usize {
     let longer = n + 1 + random.below(80);
     let shorter = random.below(n.max(1));
     let length = random.one_of(&[0, n.saturating_sub(1), shorter, n + 1, longer, 1_024, 1_025]);
@@ -144,7 +144,7 @@ pub fn divisor(whole: u32, least: u32, faults: &[Number], random: &mut Random) -
 
 /// Divisors of `whole` from `least` up: all of them if `whole` is at most 1,000,000. Where there is
 /// none, `least`.
-fn divisors(whole: u32, least: u32) -> Vec<u32> {
+pub fn divisors(whole: u32, least: u32) -> Vec<u32> {
     if whole == 0 {
         return (least..least + 8).collect();
     }

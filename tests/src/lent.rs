@@ -3,34 +3,51 @@
 use crate::case::Case;
 use crate::random::Random;
 
+/// What a buffer holds.
+pub trait Word: Copy + PartialEq {
+    fn cut(word: u64) -> Self;
+}
+
+impl Word for u8 {
+    fn cut(word: u64) -> u8 {
+        word as u8
+    }
+}
+
+impl Word for u32 {
+    fn cut(word: u64) -> u32 {
+        word as u32
+    }
+}
+
 /// Words around the content catch a write past either end. They are any words, so that a read past
 /// either end shows in the answer.
 #[derive(Clone, PartialEq, Eq)]
-pub struct Lent {
-    words: Vec<u32>,
+pub struct Lent<T> {
+    words: Vec<T>,
     from: usize,
     to: usize,
 }
 
-impl Lent {
-    /// The margins differ, so that the content starts at any multiple of four bytes.
-    fn new(content: &[u32], random: &mut Random) -> Self {
+impl<T: Word> Lent<T> {
+    /// The margins differ, so that the content starts at any multiple of a word.
+    pub fn new(content: &[T], random: &mut Random) -> Self {
         let from = 8 + random.below(4);
         let to = from + content.len();
-        let mut words: Vec<u32> = (0..to + 8).map(|_| random.word() as u32).collect();
+        let mut words: Vec<T> = (0..to + 8).map(|_| T::cut(random.word())).collect();
         words[from..to].copy_from_slice(content);
         Lent { words, from, to }
     }
 
-    pub fn content(&self) -> &[u32] {
+    pub fn content(&self) -> &[T] {
         &self.words[self.from..self.to]
     }
 
-    pub fn content_mut(&mut self) -> &mut [u32] {
+    pub fn content_mut(&mut self) -> &mut [T] {
         &mut self.words[self.from..self.to]
     }
 
-    pub fn canaries(&self) -> (&[u32], &[u32]) {
+    pub fn canaries(&self) -> (&[T], &[T]) {
         (&self.words[..self.from], &self.words[self.to..])
     }
 }
@@ -38,10 +55,10 @@ impl Lent {
 /// A case as it is lent.
 #[derive(Clone)]
 pub struct Loan {
-    pub rings: Vec<Lent>,
+    pub rings: Vec<Lent<u32>>,
     pub m: u32,
     pub divisor: Option<u32>,
-    pub out: Lent,
+    pub out: Lent<u32>,
 }
 
 impl Loan {

@@ -1,5 +1,5 @@
-//! Compares the C door with a second implementation, written from document 01 alone: answer, told
-//! values and the whole content of every lent buffer. comparison [SEED]
+//! Compares the C door and the inner functions with a second implementation, written from document 01
+//! alone: answer, told values and the whole content of every lent buffer. comparison [SEED]
 
 mod calls;
 mod case;
@@ -8,6 +8,7 @@ mod door;
 mod draw;
 mod figures;
 mod lent;
+mod probe;
 mod random;
 mod refusals;
 mod tally;
@@ -31,7 +32,8 @@ fn main() -> ExitCode {
         }
     };
     match run(&mut Random::new(seed)) {
-        Ok(cases) => {
+        Ok((cases, inner)) => {
+            println!("comparison: {inner} inner answers agree (seed {seed})");
             println!("comparison: {cases} cases agree (seed {seed})");
             ExitCode::SUCCESS
         }
@@ -42,8 +44,14 @@ fn main() -> ExitCode {
     }
 }
 
-/// Runs every call, up to the first difference.
-fn run(random: &mut Random) -> Result<usize, String> {
+/// Runs everything, up to the first difference. Hands back how many cases of the calls agree, and how
+/// many answers of the inner functions.
+fn run(random: &mut Random) -> Result<(usize, usize), String> {
+    let cases = run_calls(random)?;
+    Ok((cases, probe::run(random)?))
+}
+
+fn run_calls(random: &mut Random) -> Result<usize, String> {
     let mut cases = 0;
     Tally::print_head();
     for call in &calls::ALL {

@@ -9,6 +9,7 @@ use native.Mathlib.Nat.{dvd-of-mod-eq-zero}
 use borrow.Author.Tests.{ltb-false, eqb-false, eqb-true, not-false}
 use lib.Dec.{eqb, ltb}
 use lib.ListN.{length}
+use Rattle.sums.specs.Table.{at}
 use Rattle.limits.specs.Limits.{most-entries, least-modulus, most-modulus}
 use Rattle.ring.specs.Ring.{Ring}
 use Rattle.modular.specs.FactorList.{FactorList}
@@ -80,6 +81,9 @@ factors-passes m ps es e = listed (factor-list? m ps es) (passes _ Factors 0 0 e
     listed (yes h) z = h
     listed (no h) z = absurd (let w : _≡_ {A = ℕ} 0 1 = cc in omega arith)
 
+pub coefficient-passes : (m r : ℕ) (a : List ℕ) → coefficient m r a ≡ Passed → (i : ℕ) → i < length a → at a i < m
+coefficient-passes m r a e i h = high-before m a i (omega (arith, ltb-false (first-high m a) (length a) (passes _ Coefficient r _ e)))
+
 -- ---- the order
 
 -- Each of the lists is a ring.
@@ -109,8 +113,7 @@ coefficients-pass : (n m r : ℕ) (l : List (List ℕ)) → Long n l → first (
 coefficients-pass n m r [] h e = tt
 coefficients-pass n m r (a ∷ l) h e =
     let x = both (refuse-if (ltb (first-high m a) (length a)) Coefficient r (first-high m a)) (first (coefficients m (suc r) l)) e in
-    let none : length a ≤ first-high m a = ltb-false (first-high m a) (length a) (passes _ Coefficient r _ (x .0)) in
-    (record { long = h .0; low = λ i b. high-before m a i (omega (arith, h .0)) }, coefficients-pass n m (suc r) l (h .1) (x .1))
+    (record { long = h .0; low = λ i b. coefficient-passes m r a (x .0) i (omega (arith, h .0)) }, coefficients-pass n m (suc r) l (h .1) (x .1))
 
 nonzero : (n : ℕ) → eqb n 0 ≡ false → 0 < n
 nonzero n e = let h = eqb-false n 0 e in omega arith

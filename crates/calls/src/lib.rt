@@ -37,7 +37,8 @@ pub fn mix(a: &[u32], b: &[u32], m: u32, out: &mut [u32]) -> Answer
     }
 }
 
-fn remainders(a: &[u32], divisor: u32, out: &mut [u32])
+// The remainders of all entries, on plain slices.
+pub fn remainders(a: &[u32], divisor: u32, out: &mut [u32])
     requires { ⌜ Reducible (now a) divisor (now out) ⌝ }
     ensures { λ _. ⌜ now (out .exit) ≡ reduced.reduce (length (now (a .entry))) divisor (now (a .entry)) ⌝ }
 {

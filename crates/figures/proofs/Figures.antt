@@ -1,38 +1,148 @@
 -- Every P line of document 01 holds: each kind of line can be decided by computation, and the decision of the whole table is computed once.
 -- Assumes nothing.
-use Prim.Native.Nat.{ℕ}
+use Prim.Native.Nat.{ℕ, zero, suc, _*_, _/_, _<_}
 use mathlib.Core.Path.{_≡_, refl}
 use mathlib.Core.List.{List, [], _∷_}
 use mathlib.Core.Option.{Option, some, none, IsSome}
-use native.Mathlib.Decide.{ℕ-discrete}
+use native.Mathlib.Omega.{arith}
+use native.Mathlib.Decide.{ℕ-discrete, decLt}
 use lib.ListN.{length}
 use Rattle.sums.specs.Sum.{sum}
-use Rattle.sums.specs.Table.{table}
+use Rattle.sums.specs.Table.{at, table}
+use Rattle.sums.proofs.Tables.{at-past}
 use Rattle.ring.specs.Mix.{mix}
+use Rattle.ring.specs.One.{one, zeros}
 use Rattle.ring.specs.Fold.{fold}
-use Rattle.figures.specs.Figures.{Line, mixed, folded, Says, All, lines}
+use Rattle.modular.proofs.Decide.{prime?, factor-list?}
+use Rattle.answer.specs.Checks.{first-high}
+use Rattle.answer.specs.Order.{first, order}
+use Rattle.answer.specs.declared.Check.{Check}
+use Rattle.answer.specs.declared.Check.the-variants.{Passed, Refused}
+use Rattle.answer.proofs.Orders.{legal, factors-passes}
+use Rattle.inverter.specs.Singular.{Singular}
+use Rattle.inverter.specs.GhostPolynomial.{Degree}
+use Rattle.answer.specs.Factors.{factors}
+use Rattle.inverter.specs.Contracts.{invert-order}
+use Rattle.inverter.proofs.OnePrime.{zero-singular}
+use Rattle.inverter.proofs.Legal.{invert-passes}
+use Rattle.figures.specs.Figures.{Line, inverse, ghost, mixed, folded, AllSingular, Says, All, lines}
+use Rattle.figures.proofs.Search.{same?, implies?, below?, ring?, clear?, clear-singular, unclear-singular, clear-least}
 
 infixl 1 _>>=_
 abbrev _>>=_ : {A B : Type 0} → Option A → (A → Option B) → Option B
 _>>=_ (some a) k = k a
 _>>=_ none k = none
 
-abbrev same? : (a b : List ℕ) → Option (a ≡ b)
+abbrev if-yes : {A : Type 0} → Dec A → Option A
+if-yes (yes a) = some a
+if-yes (no n) = none
+
+abbrev if-no : {A : Type 0} → Dec A → Option (¬ A)
+if-no (yes a) = none
+if-no (no n) = some n
+
+-- ---- a call of invert that no check refuses, but for the length of its output
+
+abbrev passed? : (c : Check) → Option (c ≡ Passed)
+passed? Passed = some refl
+passed? (Refused r) = none
+
+passes : (f : List ℕ) (m : ℕ) (ps es : List ℕ) → first (order f [] m (factors m ps es) []) ≡ Passed → (old : List ℕ) → length old ≡ length f → first (invert-order f m ps es (length old)) ≡ Passed
+passes f m ps es ok old e = let t = legal f [] m (factors m ps es) [] ok in invert-passes f m ps es (length old) (record { legal = t .0; factors = factors-passes m ps es (t .1) }) e
+
+-- ---- the parts of a ghost line
+
+-- The last place that is not 0.
+abbrev degree : List ℕ → ℕ
+degree [] = 0
+degree (x ∷ l) = elim (ℕ-discrete (degree l) 0) [ yes e ↦ elim (ℕ-discrete (at l 0) 0) [ yes z ↦ 0 | no z ↦ 1 ] | no e ↦ suc (degree l) ]
+
+unfoldable degree? : (w : List ℕ) (d : ℕ) → Option (Degree w d)
+unfolding ℕ-discrete below? implies? decLt
+degree? w d = do
+  a ← if-no (ℕ-discrete (at w d) 0)
+  b ← if-yes (below? (length w) (λ i. d < i → at w i ≡ 0) (λ i. implies? (decLt d i) (ℕ-discrete (at w i) 0)))
+  some (record { last = a; above = λ i h. elim (decLt i (length w)) [ yes l ↦ b i l h | no l ↦ at-past w i (omega arith) ] })
+
+abbrev Listed : ℕ → List ℕ → Type 0
+Listed p ps = (i : ℕ) × (i < length ps) × (at ps i ≡ p)
+
+unfoldable listed? : (p : ℕ) (ps : List ℕ) → Option (Listed p ps)
 unfolding ℕ-discrete
-same? [] [] = some refl
-same? [] (y ∷ b) = none
-same? (x ∷ a) [] = none
-same? (x ∷ a) (y ∷ b) = elim (ℕ-discrete x y) [
-  | yes p ↦ (do
-    q ← same? a b
-    some (λ i. p i ∷ q i))
-  | no n ↦ none
+listed? p [] = none
+listed? p (q ∷ ps) = elim (ℕ-discrete q p) [
+  | yes e ↦ some (0, omega arith, e)
+  | no e ↦ (do
+    h ← listed? p ps
+    some (suc (h .0), omega (arith, h .1), h .2))
 ]
 
+-- No prime of the list below p is singular.
+abbrev Fine : ℕ → List ℕ → List ℕ → ℕ → Type 0
+Fine n f ps p = (i : ℕ) → i < length ps → at ps i < p → ¬ Singular n (at ps i) f
+
+unfoldable fine? : (n : ℕ) (f : List ℕ) → 0 < n → length f ≡ n → (ps : List ℕ) (p : ℕ) → Option (Fine n f ps p)
+unfolding prime? clear? decLt
+fine? n f n1 lf [] p = some (λ i h l s. omega arith)
+fine? n f n1 lf (q ∷ ps) p = fine? n f n1 lf ps p >>= λ rest. elim (decLt q p) [
+  | yes l ↦ if-yes (prime? q) >>= (λ prime. if-yes (clear? n q f n) >>= λ c. some (put rest (λ b. clear-singular n q prime n1 f lf c)))
+  | no l ↦ some (put rest (λ b. absurd (l b)))
+]
+  where
+    put : Fine n f ps p → (q < p → ¬ Singular n q f) → Fine n f (q ∷ ps) p
+    put rest h zero l b = h b
+    put rest h (suc i) l b = rest i (omega arith) b
+
+unfoldable also? : (f : List ℕ) → 0 < length f → (ps : List ℕ) → Option (AllSingular f ps)
+unfolding prime? clear?
+also? f n1 [] = some tt
+also? f n1 (p ∷ ps) = do
+  prime ← if-yes (prime? p)
+  c ← if-no (clear? (length f) p f (length f))
+  rest ← also? f n1 ps
+  some (unclear-singular (length f) p prime n1 f refl c, rest)
+
+-- ---- the lines
+
 unfoldable says? : (l : Line) → Option (Says l)
-unfolding ℕ-discrete same? mix fold table sum
-says? (mixed m a b c) = same? (mix (length a) m a b) c
-says? (folded m a c) = same? (fold (length a) (length c) m a) c
+unfolding order first-high factors factor-list? prime? degree? listed? fine? also? ring? same? clear? decLt ℕ-discrete mix fold one zeros table sum
+says? (inverse m ps es f g) = do
+  ok ← passed? (first (order f [] m (factors m ps es) []))
+  r ← if-yes (ring? (length f) m g)
+  e ← if-yes (same? (mix (length f) m f g) (one (length f) m))
+  some (λ old h. record { meets = (passes f m ps es ok old h, record { ring = r; product = e }) })
+says? (ghost m ps es f p out also) =
+    let n = length f in
+    let w = table n (λ k. at out k / (m / p)) in
+    let d = degree w in
+    do
+      ok ← passed? (first (order f [] m (factors m ps es) []))
+      n1 ← if-yes (decLt 0 n)
+      prime ← if-yes (prime? p)
+      place ← listed? p ps
+      fine ← fine? n f n1 refl ps p
+      r ← if-yes (ring? n p w)
+      deg ← degree? w d
+      lead ← if-yes (ℕ-discrete (at w d) 1)
+      z ← if-yes (same? (mix n p f w) (zeros n))
+      c ← if-yes (clear? n p f d)
+      times ← if-yes (same? out (table n (λ k. m / p * at w k)))
+      others ← also? f n1 also
+      some (
+        (λ old h. record {
+          meets = (
+            passes f m ps es ok old h,
+            record {
+              one = refl;
+              smallest = record { place = place .0; inside = place .1; listed = place .2; singular = zero-singular n p prime n1 f refl w d r (deg .last) z; least = fine };
+              ghost = record { w = w; polynomial = record { ring = r; degree = d; is = deg; monic = lead; zero = z; least = clear-least n p f d c }; times = times };
+            },
+          );
+        }),
+        others,
+      )
+says? (mixed m a b c) = if-yes (same? (mix (length a) m a b) c)
+says? (folded m a c) = if-yes (same? (fold (length a) (length c) m a) c)
 
 unfoldable all? : (ls : List Line) → Option (All ls)
 unfolding says?

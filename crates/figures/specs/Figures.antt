@@ -6,13 +6,27 @@ use mathlib.Core.List.{List, [], _∷_}
 use lib.ListN.{length}
 use Rattle.ring.specs.Mix.{mix}
 use Rattle.ring.specs.Fold.{fold}
+use Rattle.answer.specs.declared.Answer.the-variants as answer
+use Rattle.inverter.specs.Singular.{Singular}
+use Rattle.inverter.specs.Contracts.{Inverts}
 
+-- The factor list of m, which document 01 leaves out, is given by its primes and exponents.
 pub data Line : Type 0 where
+  inverse : (m : ℕ) (primes exponents f g : List ℕ) → Line
+  ghost : (m : ℕ) (primes exponents f : List ℕ) (p : ℕ) (out also : List ℕ) → Line
   mixed : (m : ℕ) (a b c : List ℕ) → Line
   folded : (m : ℕ) (a c : List ℕ) → Line
 
--- "m, a mixed with b is c"; "m, a folded onto the length of c is c".
+-- Each of the primes is singular for f.
+abbrev pub AllSingular : List ℕ → List ℕ → Type 0
+AllSingular f [] = Unit {0}
+AllSingular f (p ∷ ps) = Singular (length f) p f × AllSingular f ps
+
+-- "m, f has inverse g": invert answers Done and g, into any output of n entries. "m, f: prime p, ghost out; also .. is singular": it answers p and out,
+-- and the further primes are singular. "m, a mixed with b is c"; "m, a folded onto the length of c is c".
 abbrev pub Says : Line → Type 0
+Says (inverse m ps es f g) = (old : List ℕ) → length old ≡ length f → Inverts f m ps es old answer.Done g
+Says (ghost m ps es f p out also) = ((old : List ℕ) → length old ≡ length f → Inverts f m ps es old (answer.Singular 1 p) out) × AllSingular f also
 Says (mixed m a b c) = mix (length a) m a b ≡ c
 Says (folded m a c) = fold (length a) (length c) m a ≡ c
 
@@ -22,6 +36,17 @@ All (l ∷ ls) = Says l × All ls
 
 abbrev pub lines : List Line
 lines =
-    mixed 10 (1 ∷ 2 ∷ 0 ∷ []) (1 ∷ 0 ∷ 5 ∷ []) (1 ∷ 2 ∷ 5 ∷ [])
+    inverse 4 (2 ∷ []) (2 ∷ []) (1 ∷ 2 ∷ 0 ∷ []) (1 ∷ 2 ∷ 0 ∷ [])
+    ∷ inverse 8 (2 ∷ []) (3 ∷ []) (1 ∷ 2 ∷ []) (5 ∷ 6 ∷ [])
+    ∷ inverse 9 (3 ∷ []) (2 ∷ []) (2 ∷ 3 ∷ []) (5 ∷ 6 ∷ [])
+    ∷ inverse 5 (5 ∷ []) (1 ∷ []) (1 ∷ 1 ∷ 0 ∷ []) (3 ∷ 2 ∷ 3 ∷ [])
+    ∷ inverse 6 (2 ∷ 3 ∷ []) (1 ∷ 1 ∷ []) (0 ∷ 1 ∷ 0 ∷ []) (0 ∷ 0 ∷ 1 ∷ [])
+    ∷ inverse 1000 (2 ∷ 5 ∷ []) (3 ∷ 3 ∷ []) (3 ∷ []) (667 ∷ [])
+    ∷ ghost 10 (2 ∷ 5 ∷ []) (1 ∷ 1 ∷ []) (1 ∷ 1 ∷ []) 2 (5 ∷ 5 ∷ []) (5 ∷ [])
+    ∷ ghost 6 (2 ∷ 3 ∷ []) (1 ∷ 1 ∷ []) (1 ∷ 1 ∷ 0 ∷ []) 2 (3 ∷ 3 ∷ 3 ∷ []) []
+    ∷ ghost 1000 (2 ∷ 5 ∷ []) (3 ∷ 3 ∷ []) (1 ∷ 1 ∷ 1 ∷ []) 2 (500 ∷ 500 ∷ 0 ∷ []) []
+    ∷ ghost 1000 (2 ∷ 5 ∷ []) (3 ∷ 3 ∷ []) (3 ∷ 2 ∷ 0 ∷ []) 5 (200 ∷ 200 ∷ 200 ∷ []) []
+    ∷ ghost 1000 (2 ∷ 5 ∷ []) (3 ∷ 3 ∷ []) (0 ∷ []) 2 (500 ∷ []) []
+    ∷ mixed 10 (1 ∷ 2 ∷ 0 ∷ []) (1 ∷ 0 ∷ 5 ∷ []) (1 ∷ 2 ∷ 5 ∷ [])
     ∷ folded 10 (1 ∷ 2 ∷ 3 ∷ 4 ∷ []) (4 ∷ 6 ∷ [])
     ∷ []

@@ -44,15 +44,19 @@ fn ask(loan: &mut Loan) -> Reply {
     }
 }
 
-/// "entry k of the product of a and b is the sum over i of a_i times b_((k-i) mod n), modulo m"
 fn answer(case: &Case) -> Answer {
-    let (a, b, n) = (&case.rings[0], &case.rings[1], case.n() as i128);
-    let entry = |k: i128| -> u32 {
-        let term = |i: i128| a[i as usize] as i128 * b[(k - i).rem_euclid(n) as usize] as i128;
-        let sum: i128 = (0..n).map(term).sum();
-        (sum % case.m as i128) as u32
+    Answer { reply: DONE, out: product(&case.rings[0], &case.rings[1], case.m) }
+}
+
+/// "entry k of the product of a and b is the sum over i of a_i times b_((k-i) mod n), modulo m"
+pub fn product(a: &[u32], b: &[u32], m: u32) -> Vec<u32> {
+    let n = a.len();
+    let entry = |k: usize| -> u32 {
+        let term = |i: usize| a[i] as u128 * b[(k + n - i) % n] as u128;
+        let sum: u128 = (0..n).map(term).sum();
+        (sum % m as u128) as u32
     };
-    Answer { reply: DONE, out: (0..n).map(entry).collect() }
+    (0..n).map(entry).collect()
 }
 
 fn squared(ring: Vec<u32>, m: u32) -> Case {

@@ -7,7 +7,7 @@ use crate::lent::Loan;
 use crate::random::Random;
 
 mod fold;
-mod mix;
+pub mod mix;
 mod reduce;
 
 pub struct Call {

@@ -1,0 +1,67 @@
+-- The ghost: the only one of its kind; counts, not all zero modulo m, whose readings are all zero.
+-- m / p times what is zero modulo p is zero modulo m, and the leading coefficient m / p is not. Assumes nothing.
+use Prim.Native.Nat.{ℕ, zero, suc, _*_, _-_, _/_, _%_, _≤_, _<_, _∣_}
+use mathlib.Core.Path.{_≡_, sym, ap, _∙_}
+use mathlib.Core.Logic.{_≢_}
+use mathlib.Core.List.{List}
+use native.Mathlib.Omega.{arith}
+use native.Mathlib.Decide.{decLt}
+use native.Mathlib.Nat.{div-mul-cancel, div-add-mod, mul-mod-right, mod-eq-of-lt, mul-one, mul-le-mul-left}
+use lib.ListN.{length}
+use Rattle.sums.specs.Table.{at, table}
+use Rattle.sums.proofs.Tables.{at-table, at-past, table-eq, table-inj}
+use Rattle.ring.specs.Mix.{mix}
+use Rattle.ring.specs.One.{zeros}
+use Rattle.ring.specs.Entrywise.{scale}
+use Rattle.ring.specs.Reduce.{reduce}
+use Rattle.ring.proofs.Product.{mix-reduce, mix-scale}
+use Rattle.ring.proofs.Reduce.{reduce-mix-dvd}
+use Rattle.inverter.specs.Ghost.{Ghost}
+use Rattle.inverter.proofs.Link.{one-polynomial}
+
+pub one-ghost : (n m : ℕ) (f : List ℕ) {p : ℕ} {x y : List ℕ} → 0 < n → length f ≡ n → 2 ≤ p → Ghost n m f p x → Ghost n m f p y → x ≡ y
+one-ghost n m f {p} some lf two a b = rw (a .times, b .times, one-polynomial n p two some f lf (a .w) (b .w) (a .polynomial) (b .polynomial))
+
+-- m / p of a prime p of m.
+module _ {m p : ℕ} (two : 2 ≤ p) (some : 0 < m) (d : p ∣ m) where
+  whole : m / p * p ≡ m
+  whole = div-mul-cancel p d
+
+  part-some : 0 < m / p
+  part-some = pos (m / p) whole
+    where
+      pos : (t : ℕ) → t * p ≡ m → 0 < t
+      pos zero e = absurd (omega arith)
+      pos (suc t) e = omega arith
+
+  part-low : m / p < m
+  part-low = omega (arith, whole, part-some, mul-le-mul-left (m / p) two)
+
+  -- m / p times a multiple of p is a multiple of m.
+  part-gone : (x : ℕ) → x % p ≡ 0 → m / p * x % m ≡ 0
+  part-gone x e =
+      ap (λ (y : ℕ). y % m) (omega (arith, ap (λ (y : ℕ). m / p * y) (div-add-mod x p), ap (λ (y : ℕ). m / p * y) e, ap (λ (y : ℕ). y * (x / p)) whole)) ∙ mul-mod-right m (x / p)
+
+module _ (n m : ℕ) (f : List ℕ) {p : ℕ} {new : List ℕ} (two : 2 ≤ p) (some : 0 < m) (d : p ∣ m) (g : Ghost n m f p new) where
+  place : g .polynomial .degree < n
+  place = elim (decLt (g .polynomial .degree) n) [ yes l ↦ l | no l ↦ absurd (g .polynomial .is .last (at-past (g .w) (g .polynomial .degree) (omega (arith, g .polynomial .ring .long)))) ]
+
+  -- Not all zero.
+  pub ghost-some : (i : ℕ) × (i < n) × (at new i % m ≢ 0)
+  ghost-some = (g .polynomial .degree, place, λ z. omega (arith, part-some two some d, sym (mod-eq-of-lt (part-low two some d)) ∙ ap (λ (x : ℕ). x % m) (sym value) ∙ z))
+    where
+      value : at new (g .polynomial .degree) ≡ m / p
+      value = ap (λ (x : List ℕ). at x (g .polynomial .degree)) (g .times) ∙ at-table n _ (g .polynomial .degree) place ∙ ap (λ (x : ℕ). m / p * x) (g .polynomial .monic) ∙ mul-one (m / p)
+
+  -- Its readings are all zero.
+  pub ghost-silent : mix n m f new ≡ zeros n
+  unfolding reduce scale zeros
+  ghost-silent =
+      ap (mix n m f) (g .times) ∙ sym (mix-reduce n m f _) ∙ ap (mix n m f) scaled ∙ mix-scale n m (m / p) f (g .w)
+      ∙ table-eq n _ _ λ k h. part-gone two some d (at (mix n m f (g .w)) k) (table-inj n _ _ k h down)
+    where
+      scaled : reduce n m (table n (λ k. m / p * at (g .w) k)) ≡ scale n m (m / p) (g .w)
+      scaled = table-eq n _ _ λ k h. ap (λ (x : ℕ). x % m) (at-table n _ k h)
+
+      down : reduce n p (mix n m f (g .w)) ≡ zeros n
+      down = reduce-mix-dvd n m p d f (g .w) ∙ g .polynomial .zero

@@ -1,0 +1,9 @@
+pub mod Heard
+pub mod Counts
+pub mod Same
+pub mod Singular
+pub mod Smallest
+pub mod GhostPolynomial
+pub mod Ghost
+pub mod Verdicts
+pub mod Contracts

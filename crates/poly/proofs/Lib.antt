@@ -1,0 +1,23 @@
+-- Numbers and series modulo m; degrees; division; the two rows of the extended Euclid and what they end in; ghosts; existence; the answer; arrays.
+pub mod Residues
+pub mod Products
+pub mod SeriesRing
+pub mod Degrees
+pub mod Lengths
+pub mod Quotients
+pub mod Cycle
+pub mod Folded
+pub mod TwoRows
+pub mod Ghosts
+pub mod Ends
+pub mod Units
+pub mod Existence
+pub mod Singular
+pub mod Answers
+pub mod Linear
+pub mod Terms
+pub mod Parts
+pub mod Dividing
+pub mod Arrays
+pub mod Finish
+pub mod Descent

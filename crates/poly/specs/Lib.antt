@@ -1,0 +1,14 @@
+pub mod Limits
+pub mod Series
+pub mod Operations
+pub mod Congruent
+pub mod Inverse
+pub mod SharedFactor
+pub mod Ghost
+pub mod Haunted
+pub mod Remainder
+pub mod Division
+pub mod Terms
+pub mod Rows
+pub mod Answer
+pub mod Descent

@@ -1,0 +1,16 @@
+-- What the extended Euclid takes: n coefficients below a prime p, n and p within the limits, and an output of n places.
+use Prim.Native.Nat.{ℕ, _≤_, _<_}
+use mathlib.Core.Path.{_≡_}
+use mathlib.Core.List.{List}
+use lib.ListN.{length}
+use Rattle.sums.specs.Table.{at}
+use Rattle.limits.specs.Limits.{most-entries, most-modulus}
+use Rattle.modular.specs.Prime.{Prime}
+
+pub record Takes (f : List ℕ) (p room : ℕ) : Type 0 where
+  pub some : 0 < length f
+  pub few : length f ≤ most-entries
+  pub same : room ≡ length f
+  pub limit : p ≤ most-modulus
+  pub prime : Prime p
+  pub low : (i : ℕ) → i < length f → at f i < p

@@ -1,0 +1,128 @@
+// Numbers and polynomials modulo p for the comparison and the benchmark: each function asks nothing, and answers "refused" where the one behind it
+// asks for more.
+use answer::Check;
+use answer::check_coefficient;
+use limits::MOST_ENTRIES;
+use limits::MOST_MODULUS;
+use modular::factor::factor_fault;
+use modular::inverse::Found;
+use modular::inverse::inverse;
+use modular::power::rounds;
+use modular::prime::is_prime;
+use poly::euclid::Outcome;
+use poly::euclid::euclid;
+ghost use mathlib.Core.Path.{_≡_};
+ghost use mathlib.Core.Bool.{true};
+ghost use Rattle.modular.specs.Prime.{TellsPrime};
+ghost use Rattle.modular.specs.FactorList.{FactorList};
+ghost use Rattle.modular.specs.FactorFault.{Fault};
+ghost use Rattle.modular.specs.Rounds.{Rounds};
+ghost use Rattle.probe.specs.Takes.{Takes};
+
+const DONE: u32 = 0;
+
+const OTHER: u32 = 1;
+
+const REFUSED: u32 = 2;
+
+#[no_mangle]
+pub extern "C" fn probe_is_prime(p: u32) -> bool
+    ensures { λ r. ⌜ TellsPrime p r ⌝ }
+{
+    is_prime(p)
+}
+
+#[no_mangle]
+pub extern "C" fn probe_factor_fault(primes: &[u32], exponents: &[u8], m: u32) -> bool
+    ensures { λ r. ⌜ Fault (FactorList m (now (primes .entry)) (now (exponents .entry))) r ⌝ }
+{
+    factor_fault(primes, exponents, m)
+}
+
+// The inverse, or the greatest common divisor.
+#[repr(C)]
+pub struct Number {
+    pub kind: u32,
+    pub value: u32,
+}
+
+#[no_mangle]
+pub extern "C" fn probe_inverse(y: u32, m: u32) -> Number {
+    if m < 2 {
+        return Number {
+            kind: REFUSED,
+            value: 0,
+        };
+    }
+    match inverse(y, m) {
+        Found::Inverse(z) => Number {
+            kind: DONE,
+            value: z,
+        },
+        Found::Shares(d) => Number {
+            kind: OTHER,
+            value: d,
+        },
+    }
+}
+
+#[no_mangle]
+pub extern "C" fn probe_rounds(k: u32) -> u32
+    ensures { λ r. ⌜ Rounds k r ⌝ }
+{
+    rounds(k)
+}
+
+// The inverse, or the ghost with the degree of the shared factor.
+#[repr(C)]
+pub struct Solution {
+    pub kind: u32,
+    pub zero: u32,
+    pub degree: usize,
+}
+
+fn told(kind: u32, degree: usize) -> Solution {
+    Solution {
+        kind,
+        zero: 0,
+        degree,
+    }
+}
+
+// Whether f modulo p is what the extended Euclid takes.
+fn solvable(f: &[u32], p: u32, room: usize) -> bool
+    ensures { λ r. ⌜ (r ≡ true → Takes (now (f .entry)) p room) ⌝ }
+{
+    let n = f.len();
+    if n == 0 {
+        return false;
+    }
+    if MOST_ENTRIES < n {
+        return false;
+    }
+    if room != n {
+        return false;
+    }
+    if MOST_MODULUS < p {
+        return false;
+    }
+    if is_prime(p) {
+        return match check_coefficient(f, p, 1) {
+            Check::Passed => true,
+            Check::Refused(_) => false,
+        };
+    }
+    false
+}
+
+#[no_mangle]
+pub extern "C" fn probe_euclid(f: &[u32], p: u32, out: &mut [u32]) -> Solution {
+    if solvable(f, p, out.len()) {
+        match euclid(f, p, out) {
+            Outcome::Inverted => told(DONE, 0),
+            Outcome::Shared(degree) => told(OTHER, degree),
+        }
+    } else {
+        told(REFUSED, 0)
+    }
+}
