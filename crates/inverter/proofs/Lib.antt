@@ -8,6 +8,8 @@ pub mod Legal
 pub mod Unmixing
 pub mod OneAnswer
 pub mod Existence
+pub mod Steps
+pub mod Work
 pub mod Demand2
 pub mod Demand3
 pub mod Rejected

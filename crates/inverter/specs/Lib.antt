@@ -7,3 +7,4 @@ pub mod GhostPolynomial
 pub mod Ghost
 pub mod Verdicts
 pub mod Contracts
+pub mod Inner
