@@ -118,7 +118,7 @@ coefficients-pass n m r (a ∷ l) h e =
 nonzero : (n : ℕ) → eqb n 0 ≡ false → 0 < n
 nonzero n e = let h = eqb-false n 0 e in omega arith
 
--- The sizes, the modulus and the factor list, then the entries: one ring, and two.
+-- The sizes, the modulus and the factor list, then the entries: one ring, two, and four.
 pub order-ring : (a : List ℕ) (m : ℕ) (factors : Check)
     → or (or (or (or (empty (length a)) (large most-entries (length a))) (modulus least-modulus most-modulus m)) factors) (coefficient m 1 a) ≡ first (order a [] m factors [])
 unfolding order
@@ -129,6 +129,13 @@ pub order-rings : (a b : List ℕ) (m : ℕ) (factors : Check)
     ≡ first (order a (b ∷ []) m factors [])
 unfolding order
 order-rings a b m factors = simp (or-assoc, or-passed)
+
+pub order-four : (a b c d : List ℕ) (m : ℕ) (factors : Check) → let n = length a in
+    or (or (or (or (or (empty n) (large most-entries n)) (or (or (mismatch n 2 (length b)) (mismatch n 3 (length c))) (mismatch n 4 (length d)))) (modulus least-modulus most-modulus m)) factors)
+    (or (or (or (coefficient m 1 a) (coefficient m 2 b)) (coefficient m 3 c)) (coefficient m 4 d))
+    ≡ first (order a (b ∷ c ∷ d ∷ []) m factors [])
+unfolding order
+order-four a b c d m factors = simp (or-assoc, or-passed)
 
 -- One and two checks after the entries.
 pub order-one : (a : List ℕ) (others : List (List ℕ)) (m : ℕ) (factors c : Check) → or (first (order a others m factors [])) c ≡ first (order a others m factors (c ∷ []))

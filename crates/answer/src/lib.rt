@@ -172,6 +172,28 @@ pub fn check_rings(a: &[u32], b: &[u32], m: u32, factors: Check) -> Check
     }
 }
 
+// The same of a call with four rings.
+pub fn check_four_rings(a: &[u32], b: &[u32], c: &[u32], d: &[u32], m: u32, factors: Check) -> Check
+    ensures { λ r. ⌜ r ≡ first (order (now (a .entry)) (now (b .entry) ∷ now (c .entry) ∷ now (d .entry) ∷ []) m factors []) ⌝ }
+{
+    let n = a.len();
+    let lengths = check_mismatch(n, b.len(), 2)
+        .or(check_mismatch(n, c.len(), 3))
+        .or(check_mismatch(n, d.len(), 4));
+    let shape = check_empty(n)
+        .or(check_large(n, MOST_ENTRIES))
+        .or(lengths)
+        .or(check_modulus(m, LEAST_MODULUS, MOST_MODULUS))
+        .or(factors);
+    match shape {
+        Check::Passed => check_coefficient(a, m, 1)
+            .or(check_coefficient(b, m, 2))
+            .or(check_coefficient(c, m, 3))
+            .or(check_coefficient(d, m, 4)),
+        Check::Refused(refusal) => Check::Refused(refusal),
+    }
+}
+
 fn tell(number: u32, ring: usize, place: usize, prime: u32) -> Reply
     ensures { λ r. ⌜ r ≡ record { number = number; prime = prime; ring = ring; place = place } ⌝ }
 {

@@ -1,6 +1,6 @@
 -- The ghost: the only one of its kind; counts, not all zero modulo m, whose readings are all zero.
 -- m / p times what is zero modulo p is zero modulo m, and the leading coefficient m / p is not. Assumes nothing.
-use Prim.Native.Nat.{ℕ, zero, suc, _*_, _/_, _%_, _≤_, _<_, _∣_}
+use Prim.Native.Nat.{ℕ, zero, suc, _*_, _-_, _/_, _%_, _≤_, _<_, _∣_}
 use mathlib.Core.Path.{_≡_, sym, ap, _∙_}
 use mathlib.Core.Logic.{_≢_}
 use mathlib.Core.List.{List}

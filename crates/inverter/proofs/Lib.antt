@@ -10,6 +10,7 @@ pub mod OneAnswer
 pub mod Existence
 pub mod Steps
 pub mod Work
+pub mod Judging
 pub mod Demand2
 pub mod Demand3
 pub mod Rejected

@@ -21,6 +21,8 @@ use Rattle.poly.specs.Series.{Series, Below, Reduced, Length}
 use Rattle.poly.specs.Operations as series
 use Rattle.poly.specs.Operations.{red, mul, term}
 use Rattle.poly.specs.Congruent.{Congruent}
+use Rattle.poly.specs.Inverse.{Inverse as InverseSeries}
+use Rattle.poly.specs.Ghost.{Ghost as GhostSeries}
 use Rattle.poly.proofs.Arrays.{below-list}
 use Rattle.poly.proofs.Degrees.{below-up, below-none, below-red, reduced-red}
 use Rattle.poly.proofs.SeriesRing.{red-red}

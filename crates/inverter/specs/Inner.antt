@@ -1,7 +1,7 @@
 -- What the functions behind the calls ask of each other, and what they give.
 use Prim.Native.Nat.{ℕ, _*_, _^_, _%_, _≤_, _<_}
 use mathlib.Core.Path.{_≡_}
-use mathlib.Core.Logic.{_≢_}
+use mathlib.Core.Logic.{_≢_, _⊎_}
 use mathlib.Core.Bool.{Bool, true, false}
 use mathlib.Core.List.{List}
 use lib.ListN.{length}
@@ -17,6 +17,10 @@ use Rattle.inverter.specs.Smallest.{Smallest}
 use Rattle.inverter.specs.GhostPolynomial.{GhostPolynomial}
 use Rattle.inverter.specs.Ghost as ghosts
 use Rattle.inverter.specs.Counts.{Unmixed}
+use Rattle.inverter.specs.Same.{Same}
+use Rattle.inverter.specs.Contracts.{Compared, RingOne, RingThree}
+use Rattle.inverter.specs.declared.Verdict.{Verdict}
+use Rattle.inverter.specs.declared.Verdict.the-variants as verdict
 use Rattle.inverter.specs.declared.Inversion.{Inversion}
 use Rattle.inverter.specs.declared.Inversion.the-variants.{Inverted, Ghost}
 use Rattle.inverter.specs.declared.Step.{Step}
@@ -147,3 +151,42 @@ pub record UnmixLegal (f y : List ℕ) (m : ℕ) (ps es out : List ℕ) : Type 0
   pub low : 0 < m
   pub readings : Ring (length f) m y
   pub out-long : length out ≡ length f
+
+-- ---- same feeding
+
+pub record TellsSame (a b : List ℕ) (r : Bool) : Type 0 where
+  pub yes-same : r ≡ true → Same (length a) a b
+  pub no-same : r ≡ false → ¬ Same (length a) a b
+
+pub record SameLegal (f₁ y₁ f₂ y₂ : List ℕ) (m : ℕ) (ps es : List ℕ) : Type 0 where
+  pub factored : Factored f₁ m ps es
+  pub low : 0 < m
+  pub readings₁ : Ring (length f₁) m y₁
+  pub pattern₂ : length f₂ ≡ length f₁
+  pub readings₂ : Ring (length f₁) m y₂
+
+pub record SameIn (f₁ y₁ f₂ y₂ : List ℕ) (m : ℕ) (ps es room g acc c₁ c₂ : List ℕ) : Type 0 where
+  pub legal : SameLegal f₁ y₁ f₂ y₂ m ps es
+  pub room-long : length room ≡ length f₁
+  pub g-long : length g ≡ length f₁
+  pub acc-long : length acc ≡ length f₁
+  pub c₁-long : length c₁ ≡ length f₁
+  pub c₂-long : length c₂ ≡ length f₁
+
+pub record SameWith (f₁ y₁ f₂ y₂ : List ℕ) (m : ℕ) (ps es room g acc c₁ c₂ : List ℕ) : Type 0 where
+  pub legal : SameLegal f₁ y₁ f₂ y₂ m ps es
+  pub room-room : length f₁ ≤ length room
+  pub g-room : length f₁ ≤ length g
+  pub acc-room : length f₁ ≤ length acc
+  pub c₁-room : length f₁ ≤ length c₁
+  pub c₂-room : length f₁ ≤ length c₂
+
+-- The verdict on a legal call.
+abbrev pub JudgeMeans : ℕ → ℕ → List ℕ → List ℕ → List ℕ → List ℕ → List ℕ → Verdict → Type 0
+JudgeMeans n m f₁ y₁ f₂ y₂ ps verdict.Yes = Compared n m f₁ y₁ f₂ y₂ (Same n)
+JudgeMeans n m f₁ y₁ f₂ y₂ ps verdict.No = Compared n m f₁ y₁ f₂ y₂ (λ c₁ c₂. ¬ Same n c₁ c₂)
+JudgeMeans n m f₁ y₁ f₂ y₂ ps (verdict.Singular ring prime) = RingOne n f₁ ps ring prime ⊎ RingThree n m f₁ f₂ ps ring prime
+JudgeMeans n m f₁ y₁ f₂ y₂ ps (verdict.Refused r) = ⊥
+
+pub record Judged (n m : ℕ) (f₁ y₁ f₂ y₂ ps : List ℕ) (v : Verdict) : Type 0 where
+  pub means : JudgeMeans n m f₁ y₁ f₂ y₂ ps v

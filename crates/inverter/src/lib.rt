@@ -3,6 +3,7 @@ use answer::Answer;
 use answer::Check;
 use answer::Refusal;
 use answer::check_factors;
+use answer::check_four_rings;
 use answer::check_ring;
 use answer::check_rings;
 use answer::check_room;
@@ -22,9 +23,9 @@ ghost use Rattle.sums.specs.Table.{at, table};
 ghost use Rattle.ring.specs.Reduce.{reduce};
 ghost use Rattle.ring.specs.One.{zeros};
 ghost use Rattle.poly.specs.Answer.{Answers};
-ghost use Rattle.inverter.specs.Inner.{Power, Prepared, PowerPrepared, PowerFound, JoinsPower, Joins, Stepped, Solvable, Solved, Multipliable, Invertion, InvertWith, InvertLegal, Unmixable, Unmixing, UnmixWith, UnmixLegal};
+ghost use Rattle.inverter.specs.Inner.{Power, Prepared, PowerPrepared, PowerFound, JoinsPower, Joins, Stepped, Solvable, Solved, Multipliable, Invertion, InvertWith, InvertLegal, Unmixable, Unmixing, UnmixWith, UnmixLegal, TellsSame, SameIn, Judged, SameWith, SameLegal};
 ghost use Rattle.answer.specs.Order.{first};
-ghost use Rattle.inverter.specs.Contracts.{invert-order, unmix-order, Inverts, Unmixes};
+ghost use Rattle.inverter.specs.Contracts.{invert-order, unmix-order, same-order, Inverts, Unmixes, SameFeeding};
 ghost use Rattle.lift.specs.Asks.{Joined};
 ghost use Rattle.modular.specs.FactorList.{powers};
 
@@ -325,5 +326,151 @@ pub fn unmix(
             Inversion::Ghost(p) => Answer::Singular { ring: 1, prime: p },
         },
         Check::Refused(refusal) => Answer::Refused(refusal),
+    }
+}
+
+fn check_same(
+    f1: &[u32],
+    y1: &[u32],
+    f2: &[u32],
+    y2: &[u32],
+    m: u32,
+    primes: &[u32],
+    exponents: &[u8],
+) -> Check
+    ensures { λ r. ⌜ r ≡ first (same-order (now (f1 .entry)) (now (y1 .entry)) (now (f2 .entry)) (now (y2 .entry)) m (now (primes .entry)) (now (exponents .entry))) ⌝ }
+{
+    check_four_rings(f1, y1, f2, y2, m, check_factors(primes, exponents, m))
+}
+
+// Whether two rings of one length have the same entries.
+fn same(a: &[u32], b: &[u32]) -> bool
+    requires { ⌜ length (now b) ≡ length (now a) ⌝ }
+    ensures { λ r. ⌜ TellsSame (now (a .entry)) (now (b .entry)) r ⌝ }
+{
+    let mut k = 0;
+    while k < a.len() {
+        if a[k] != b[k] {
+            return false;
+        }
+        k += 1;
+    }
+    true
+}
+
+// Both sides are unmixed, the first into c1 and the second into c2, and the counts compared.
+fn same_in(
+    f1: &[u32],
+    y1: &[u32],
+    f2: &[u32],
+    y2: &[u32],
+    m: u32,
+    primes: &[u32],
+    exponents: &[u8],
+    room: &mut [u32],
+    g: &mut [u32],
+    acc: &mut [u32],
+    c1: &mut [u32],
+    c2: &mut [u32],
+) -> Verdict
+    requires { ⌜ SameIn (now f1) (now y1) (now f2) (now y2) m (now primes) (now exponents) (now room) (now g) (now acc) (now c1) (now c2) ⌝ }
+    ensures { λ r. ⌜ Judged (length (now (f1 .entry))) m (now (f1 .entry)) (now (y1 .entry)) (now (f2 .entry)) (now (y2 .entry)) (now (primes .entry)) r ⌝ }
+{
+    match unmix_in(f1, y1, m, primes, exponents, room, g, acc, c1) {
+        Inversion::Ghost(p) => Verdict::Singular { ring: 1, prime: p },
+        Inversion::Inverted => match unmix_in(f2, y2, m, primes, exponents, room, g, acc, c2) {
+            Inversion::Ghost(p) => Verdict::Singular { ring: 3, prime: p },
+            Inversion::Inverted => {
+                if same(c1, c2) {
+                    return Verdict::Yes;
+                }
+                Verdict::No
+            }
+        },
+    }
+}
+
+fn same_with(
+    f1: &[u32],
+    y1: &[u32],
+    f2: &[u32],
+    y2: &[u32],
+    m: u32,
+    primes: &[u32],
+    exponents: &[u8],
+    room: &mut [u32],
+    g: &mut [u32],
+    acc: &mut [u32],
+    c1: &mut [u32],
+    c2: &mut [u32],
+) -> Verdict
+    requires { ⌜ SameWith (now f1) (now y1) (now f2) (now y2) m (now primes) (now exponents) (now room) (now g) (now acc) (now c1) (now c2) ⌝ }
+    ensures { λ r. ⌜ Judged (length (now (f1 .entry))) m (now (f1 .entry)) (now (y1 .entry)) (now (f2 .entry)) (now (y2 .entry)) (now (primes .entry)) r ⌝ }
+{
+    let n = f1.len();
+    same_in(
+        f1,
+        y1,
+        f2,
+        y2,
+        m,
+        primes,
+        exponents,
+        &mut room[..n],
+        &mut g[..n],
+        &mut acc[..n],
+        &mut c1[..n],
+        &mut c2[..n],
+    )
+}
+
+fn same_legal(
+    f1: &[u32],
+    y1: &[u32],
+    f2: &[u32],
+    y2: &[u32],
+    m: u32,
+    primes: &[u32],
+    exponents: &[u8],
+) -> Verdict
+    requires { ⌜ SameLegal (now f1) (now y1) (now f2) (now y2) m (now primes) (now exponents) ⌝ }
+    ensures { λ r. ⌜ Judged (length (now (f1 .entry))) m (now (f1 .entry)) (now (y1 .entry)) (now (f2 .entry)) (now (y2 .entry)) (now (primes .entry)) r ⌝ }
+{
+    let mut room = [0u32; MOST_ENTRIES];
+    let mut g = [0u32; MOST_ENTRIES];
+    let mut acc = [0u32; MOST_ENTRIES];
+    let mut c1 = [0u32; MOST_ENTRIES];
+    let mut c2 = [0u32; MOST_ENTRIES];
+    same_with(
+        f1,
+        y1,
+        f2,
+        y2,
+        m,
+        primes,
+        exponents,
+        &mut room,
+        &mut g,
+        &mut acc,
+        &mut c1,
+        &mut c2,
+    )
+}
+
+pub fn same_feeding(
+    f1: &[u32],
+    y1: &[u32],
+    f2: &[u32],
+    y2: &[u32],
+    m: u32,
+    primes: &[u32],
+    exponents: &[u8],
+) -> Verdict
+    ensures { λ r. ⌜ SameFeeding (now (f1 .entry)) (now (y1 .entry)) (now (f2 .entry)) (now (y2 .entry)) m (now (primes .entry)) (now (exponents .entry)) r ⌝ }
+{
+    let check = check_same(f1, y1, f2, y2, m, primes, exponents);
+    match check {
+        Check::Passed => same_legal(f1, y1, f2, y2, m, primes, exponents),
+        Check::Refused(refusal) => Verdict::Refused(refusal),
     }
 }
