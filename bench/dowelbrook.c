@@ -42,4 +42,4 @@ bool has_inverse(const uint32_t *a, size_t n, uint32_t m) {
 static void get(uint32_t *out) { memcpy(out, result, length * sizeof *out); }
 
 const struct contender dowelbrook_mixes = {"dowelbrook", set, mix, get};
-const struct contender dowelbrook_inverts = {"dowelbrook", set, invert, get};
+const struct contender dowelbrook_inverts_prime = {"dowelbrook", set, invert, get};

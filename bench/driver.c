@@ -37,12 +37,23 @@ static const struct shape mix_shapes[] = {
     {64, 999983},   {251, 999983},  {1024, 999983},  {0, 0},
 };
 
-static const struct shape invert_shapes[] = {
+static const struct shape prime_shapes[] = {
     {16, 2},       {61, 2},        {64, 2},        {128, 2},       {251, 2},      {256, 2},
     {512, 2},      {1021, 2},      {1024, 2},      {16, 17},       {61, 17},      {64, 17},
     {128, 17},     {251, 17},      {256, 17},      {512, 17},      {1021, 17},    {1024, 17},
     {16, 999983},  {61, 999983},   {64, 999983},   {128, 999983},  {251, 999983}, {256, 999983},
     {512, 999983}, {1021, 999983}, {1024, 999983}, {0, 0},
+};
+
+static const struct shape invert_shapes[] = {
+    {64, 1000000}, {128, 1000000}, {256, 1000000}, {1024, 1000000}, {64, 524288},
+    {128, 524288}, {256, 524288},  {1024, 524288}, {64, 510510},    {128, 510510},
+    {256, 510510}, {1024, 510510}, {0, 0},
+};
+
+static const struct shape parts_shapes[] = {
+    {128, 1000000}, {1024, 1000000}, {128, 524288}, {1024, 524288},
+    {128, 510510},  {1024, 510510},  {0, 0},
 };
 
 static const struct job jobs[] = {
@@ -60,20 +71,30 @@ static const struct job jobs[] = {
      },
      mix_shapes,
      NULL},
+    {"invert modulo a prime",
+     {&dowelbrook_inverts_prime,
+#ifdef HAVE_FLINT
+      &flint_inverts_prime,
+#endif
+#ifdef HAVE_NTL
+      &ntl_inverts_prime,
+#endif
+#ifdef HAVE_PARI
+      &pari_inverts_prime,
+#endif
+     },
+     prime_shapes,
+     has_inverse},
     {"invert",
      {&dowelbrook_inverts,
 #ifdef HAVE_FLINT
       &flint_inverts,
 #endif
-#ifdef HAVE_NTL
-      &ntl_inverts,
-#endif
-#ifdef HAVE_PARI
-      &pari_inverts,
-#endif
      },
      invert_shapes,
-     has_inverse},
+     has_whole_inverse},
+    {"unmix", {&dowelbrook_unmixes, &parts_unmix}, parts_shapes, has_whole_inverse},
+    {"same feeding", {&dowelbrook_compares, &parts_compare}, parts_shapes, has_whole_inverse},
 };
 
 static void draw(uint32_t *ring, size_t n, uint32_t m) {

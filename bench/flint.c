@@ -61,4 +61,4 @@ static void get(uint32_t *out) {
 }
 
 const struct contender flint_mixes = {"FLINT", set, mix, get};
-const struct contender flint_inverts = {"FLINT", set, invert, get};
+const struct contender flint_inverts_prime = {"FLINT", set, invert, get};

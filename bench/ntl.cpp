@@ -42,4 +42,4 @@ static void get(uint32_t *out) {
 }
 
 const struct contender ntl_mixes = {"NTL", set, mix, get};
-const struct contender ntl_inverts = {"NTL", set, invert, get};
+const struct contender ntl_inverts_prime = {"NTL", set, invert, get};

@@ -57,4 +57,4 @@ static void get(uint32_t *out) {
 }
 
 const struct contender pari_mixes = {"PARI", set, mix, get};
-const struct contender pari_inverts = {"PARI", set, invert, get};
+const struct contender pari_inverts_prime = {"PARI", set, invert, get};

@@ -10,6 +10,13 @@ HOLDS(then_ring, offsetof(dowelbrook_reply, ring) == 8);
 HOLDS(then_place, offsetof(dowelbrook_reply, place) == 16);
 HOLDS(no_more, sizeof(dowelbrook_reply) == 24);
 
+HOLDS(number_first_too, offsetof(dowelbrook_verdict, number) == 0);
+HOLDS(then_prime_too, offsetof(dowelbrook_verdict, prime) == 4);
+HOLDS(then_ring_too, offsetof(dowelbrook_verdict, ring) == 8);
+HOLDS(then_place_too, offsetof(dowelbrook_verdict, place) == 16);
+HOLDS(then_same, offsetof(dowelbrook_verdict, same) == 24);
+HOLDS(no_more_of_a_verdict, sizeof(dowelbrook_verdict) == 32);
+
 HOLDS(kind_first, offsetof(probe_number, kind) == 0);
 HOLDS(then_value, offsetof(probe_number, value) == 4);
 HOLDS(no_more_of_a_number, sizeof(probe_number) == 8);

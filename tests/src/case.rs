@@ -1,13 +1,16 @@
 //! One call's inputs, and its output as it comes.
 
-use crate::door::Reply;
+use crate::door::{Reply, Verdict, DONE};
 
-#[derive(Clone, Debug)]
+#[derive(Clone, Debug, Default)]
 pub struct Case {
     pub rings: Vec<Vec<u32>>,
     pub m: u32,
     /// The new modulus, in the call that has one.
     pub divisor: Option<u32>,
+    /// The factor list, in the calls that have one.
+    pub primes: Vec<u32>,
+    pub exponents: Vec<u8>,
     pub out: Vec<u32>,
 }
 
@@ -20,7 +23,18 @@ impl Case {
 
 #[derive(Clone, Debug, PartialEq, Eq)]
 pub struct Answer {
-    pub reply: Reply,
+    pub verdict: Verdict,
     /// The whole content of the output afterwards.
     pub out: Vec<u32>,
+}
+
+impl Answer {
+    pub fn done(out: Vec<u32>) -> Self {
+        Answer { verdict: DONE.into(), out }
+    }
+
+    /// A refusal that leaves the output as it came.
+    pub fn refused(reply: Reply, case: &Case) -> Self {
+        Answer { verdict: reply.into(), out: case.out.clone() }
+    }
 }

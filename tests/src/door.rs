@@ -11,15 +11,37 @@ pub struct Reply {
 
 pub const DONE: Reply = Reply { number: 0, prime: 0, ring: 0, place: 0 };
 
+/// What same feeding answers. The other calls' answers are brought into this form.
+#[repr(C)]
+#[derive(Clone, Copy, Debug, PartialEq, Eq)]
+pub struct Verdict {
+    pub reply: Reply,
+    /// 1 for yes, else 0.
+    pub same: usize,
+}
+
+impl From<Reply> for Verdict {
+    fn from(reply: Reply) -> Verdict {
+        Verdict { reply, same: 0 }
+    }
+}
+
 #[derive(Clone, Copy, Debug, PartialEq, Eq)]
 pub enum Number {
     Empty = 1,
     Large = 2,
     Mismatch = 3,
     Modulus = 4,
+    Factors = 5,
     Coefficient = 6,
     Room = 7,
     Divisor = 8,
+    Singular = 9,
+}
+
+/// SINGULAR, with what it tells.
+pub fn singular(ring: usize, prime: u32) -> Reply {
+    Reply { number: Number::Singular as u32, prime, ring, place: 0 }
 }
 
 impl Number {

@@ -3,6 +3,8 @@
 use crate::calls::Call;
 use crate::case::Case;
 use crate::door::Number;
+use crate::factors::{self, List};
+use crate::patterns;
 use crate::random::Random;
 
 /// Every set of one, two or three faults that one case of the call can have.
@@ -20,10 +22,14 @@ pub fn fault_sets(call: &Call) -> Vec<Vec<Number>> {
 }
 
 pub fn case(call: &Call, faults: &[Number], random: &mut Random) -> Case {
-    let n = length(faults, random);
+    let n = length(call, faults, random);
     let m = modulus(faults, random);
     let rings = (0..call.rings).map(|_| ring(n, m, random)).collect();
-    let mut case = Case { rings, m, divisor: None, out: Vec::new() };
+    let mut case = Case { rings, m, ..Case::default() };
+    if !call.patterns.is_empty() {
+        draw_patterns(call, &mut case, faults, random);
+        draw_factors(&mut case, faults, random);
+    }
     if faults.contains(&Number::Mismatch) {
         spoil_lengths(&mut case, random);
     }
@@ -34,12 +40,15 @@ pub fn case(call: &Call, faults: &[Number], random: &mut Random) -> Case {
     case
 }
 
-fn length(faults: &[Number], random: &mut Random) -> usize {
+fn length(call: &Call, faults: &[Number], random: &mut Random) -> usize {
     if faults.contains(&Number::Empty) {
         return 0;
     }
     if faults.contains(&Number::Large) {
         return random.one_of(&[1_025, 1_026, 1_088, 1_280, 2_048]);
+    }
+    if !call.patterns.is_empty() {
+        return short_length(random);
     }
     match random.below(100) {
         0 => random.one_of(&[1_024, 1_023, 1_021, 1_008, 720, 512, 257]),
@@ -48,18 +57,60 @@ fn length(faults: &[Number], random: &mut Random) -> usize {
     }
 }
 
+/// 1 to 64, mostly such that elimination takes no time.
+pub fn short_length(random: &mut Random) -> usize {
+    match random.below(100) {
+        0..4 => 33 + random.below(32),
+        4..20 => 17 + random.below(16),
+        _ => 1 + random.below(16),
+    }
+}
+
 fn modulus(faults: &[Number], random: &mut Random) -> u32 {
     if faults.contains(&Number::Modulus) {
         let above = random.between(1_000_001, u32::MAX);
         return random.one_of(&[0, 1, 1_000_001, u32::MAX, above]);
     }
-    const TELLING: [u32; 12] =
-        [2, 3, 8, 9, 10, 1 << 19, 531_441, 510_510, 720_720, 999_983, 999_999, 1_000_000];
+    legal_modulus(random)
+}
+
+/// Primes, prime powers, and products of many primes and of few.
+pub fn legal_modulus(random: &mut Random) -> u32 {
+    const TELLING: [u32; 16] = [
+        2, 3, 4, 8, 9, 10, 524_288, 531_441, 823_543, 994_009, 510_510, 720_720, 999_983, 999_999,
+        999_958, 1_000_000,
+    ];
     match random.below(4) {
         0 => random.between(2, 60),
         1 => random.between(2, 1_000_000),
         _ => random.one_of(&TELLING),
     }
+}
+
+/// Patterns in their places: of any sort if no fault is asked for, else singular only if that is.
+fn draw_patterns(call: &Call, case: &mut Case, faults: &[Number], random: &mut Random) {
+    let (n, m) = (case.n(), case.m);
+    if !(1..=64).contains(&n) || !(2..=1_000_000).contains(&m) {
+        return;
+    }
+    let certain = random.one_of(call.patterns);
+    let singular = faults.contains(&Number::Singular);
+    for &index in call.patterns {
+        case.rings[index] = match random.below(8) {
+            _ if singular && index == certain => patterns::singular(n, m, random),
+            _ if !faults.is_empty() => patterns::unit(n, m, random),
+            0..5 => patterns::unit(n, m, random),
+            5 | 6 => patterns::singular(n, m, random),
+            _ => ring(n, m, random),
+        };
+    }
+}
+
+/// The factor list of m, or the fault FACTORS.
+fn draw_factors(case: &mut Case, faults: &[Number], random: &mut Random) {
+    let wrong = faults.contains(&Number::Factors);
+    let list = if wrong { factors::wrong(case.m, random) } else { List::of(case.m) };
+    (case.primes, case.exponents) = (list.primes, list.exponents);
 }
 
 /// n entries below m: all sorts, mostly 0, near the ends, or all the largest.
@@ -95,7 +146,8 @@ fn spoil_entries(case: &mut Case, random: &mut Random) {
             let anywhere = random.below(length);
             let place = random.one_of(&[0, length - 1, anywhere, anywhere]);
             let above = random.between(case.m, u32::MAX);
-            let entry = random.one_of(&[case.m, case.m.saturating_add(1), above, u32::MAX]);
+            let same = case.rings[index][place].saturating_add(case.m);
+            let entry = random.one_of(&[case.m, same, same, same, above, u32::MAX]);
             case.rings[index][place] = entry;
         }
     }

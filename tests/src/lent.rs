@@ -58,6 +58,8 @@ pub struct Loan {
     pub rings: Vec<Lent<u32>>,
     pub m: u32,
     pub divisor: Option<u32>,
+    pub primes: Lent<u32>,
+    pub exponents: Lent<u8>,
     pub out: Lent<u32>,
 }
 
@@ -67,7 +69,15 @@ impl Loan {
             rings: case.rings.iter().map(|ring| Lent::new(ring, random)).collect(),
             m: case.m,
             divisor: case.divisor,
+            primes: Lent::new(&case.primes, random),
+            exponents: Lent::new(&case.exponents, random),
             out: Lent::new(&case.out, random),
         }
+    }
+
+    pub fn has_inputs_of(&self, other: &Loan) -> bool {
+        self.rings == other.rings
+            && self.primes == other.primes
+            && self.exponents == other.exponents
     }
 }

@@ -3,15 +3,21 @@
 
 mod calls;
 mod case;
+mod circulant;
 mod compare;
 mod door;
 mod draw;
+mod factors;
 mod figures;
+mod large;
 mod lent;
+mod patterns;
+mod primes;
 mod probe;
 mod random;
 mod refusals;
 mod tally;
+mod twins;
 
 use calls::Call;
 use random::Random;
@@ -51,6 +57,8 @@ fn run(random: &mut Random) -> Result<(usize, usize), String> {
     Ok((cases, probe::run(random)?))
 }
 
+type Run = fn(&mut Random) -> Result<usize, String>;
+
 fn run_calls(random: &mut Random) -> Result<usize, String> {
     let mut cases = 0;
     Tally::print_head();
@@ -62,6 +70,11 @@ fn run_calls(random: &mut Random) -> Result<usize, String> {
             return Err(format!("{}: an answer was met too seldom", call.name));
         }
         cases += tally.cases;
+    }
+    for (name, run) in [("twins", twins::run as Run), ("large rings", large::run)] {
+        let agree = run(random).map_err(|fault| format!("{name}: {fault}"))?;
+        println!("{name:<30}{agree:>8}");
+        cases += agree;
     }
     if cases < LEAST_CASES {
         return Err(format!("only {cases} cases"));

@@ -1,25 +1,42 @@
 //! The table of refusals of document 01, each line by itself and with no regard to the others.
 
+use crate::calls::Call;
 use crate::case::Case;
+use crate::circulant;
 use crate::door::{Number, Reply, DONE};
+use crate::factors::List;
 
-/// The refusal with this number, if it applies to the case.
-pub fn examine(number: Number, case: &Case) -> Option<Reply> {
+/// The refusal with this number, if it applies to the case. SINGULAR is the business of the call's
+/// answer.
+fn examine(number: Number, case: &Case) -> Option<Reply> {
     match number {
         Number::Empty => bare(number, case.n() == 0),
         Number::Large => bare(number, case.n() > 1_024),
         Number::Mismatch => mismatch(case),
         Number::Modulus => bare(number, !(2..=1_000_000).contains(&case.m)),
+        Number::Factors => bare(number, !list(case).faults().is_empty()),
         Number::Coefficient => coefficient(case),
         Number::Room => bare(number, case.out.len() != case.n()),
         Number::Divisor => bare(number, !divides(case)),
+        Number::Singular => None,
     }
 }
 
-/// Every refusal that applies, in the order given.
+/// Every refusal but SINGULAR that applies, in the order given.
 pub fn all(order: &[Number], case: &Case) -> Vec<(Number, Reply)> {
     let applies = |&number| examine(number, case).map(|reply| (number, reply));
     order.iter().filter_map(applies).collect()
+}
+
+/// Whether besides a refusal a pattern is singular, as far as that can be said and is soon seen.
+pub fn singular_too(call: &Call, case: &Case) -> bool {
+    let speaks = (2..=1_000_000).contains(&case.m) && (1..=64).contains(&case.n());
+    let mut patterns = call.patterns.iter().map(|&index| &case.rings[index]);
+    speaks && patterns.any(|f| f.len() == case.n() && circulant::ghost(f, case.m).is_some())
+}
+
+fn list(case: &Case) -> List {
+    List { primes: case.primes.clone(), exponents: case.exponents.clone(), m: case.m }
 }
 
 fn bare(number: Number, applies: bool) -> Option<Reply> {

@@ -4,8 +4,8 @@ use crate::calls::Call;
 use crate::door::Number;
 
 const LEAST_GIVEN: usize = 500;
-const LEAST_ALONE: usize = 50;
-const LEAST_PAIRED: usize = 50;
+const LEAST_ALONE: usize = 500;
+const LEAST_PAIRED: usize = 500;
 
 pub struct Tally<'a> {
     call: &'a Call,
@@ -37,6 +37,16 @@ impl<'a> Tally<'a> {
     }
 
     pub fn enough(&self) -> bool {
+        self.often_enough() && self.dark_enough()
+    }
+
+    /// At least a quarter of the answers that take an inversion is SINGULAR, and many are not.
+    fn dark_enough(&self) -> bool {
+        let singular = self.given[Number::Singular as usize];
+        self.call.patterns.is_empty() || (singular * 3 >= self.done && singular <= self.done * 3)
+    }
+
+    fn often_enough(&self) -> bool {
         self.call.order.iter().all(|&number| {
             self.given[number as usize] >= LEAST_GIVEN
                 && self.alone[number as usize] >= LEAST_ALONE
@@ -52,16 +62,16 @@ impl<'a> Tally<'a> {
     }
 
     pub fn print(&self) {
-        println!("{:<8}{:<16}{:>8}", self.call.name, "0 DONE", self.done);
+        println!("{:<14}{:<16}{:>8}", self.call.name, "0 DONE", self.done);
         for &number in self.call.order {
             let name = format!("{} {number:?}", number as u32).to_uppercase();
             let (given, alone) = (self.given[number as usize], self.alone[number as usize]);
             let paired = self.rarest_pair(number).map_or("-".into(), |count| count.to_string());
-            println!("{:<8}{name:<16}{given:>8}{alone:>8}{paired:>8}", "");
+            println!("{:<14}{name:<16}{given:>8}{alone:>8}{paired:>8}", "");
         }
     }
 
     pub fn print_head() {
-        println!("{:<8}{:<16}{:>8}{:>8}{:>8}", "call", "answer", "given", "alone", "paired");
+        println!("{:<14}{:<16}{:>8}{:>8}{:>8}", "call", "answer", "given", "alone", "paired");
     }
 }

@@ -1,9 +1,14 @@
 // The calls for C, Rust and Python: no call has a requires, each keeps the contract of the call behind it and replies in the paper's numbers.
 // include/dowelbrook.h declares them.
+use answer::Answer;
 use answer::Reply;
 use answer::reply_of;
+use inverter::Verdict;
+ghost use mathlib.Core.Path.{_≡_};
 ghost use Rattle.answer.specs.Reply.{Replied};
 ghost use Rattle.calls.specs.Contracts.{Mixes, Reduces, Folds};
+ghost use Rattle.inverter.specs.Contracts.{Inverts, Unmixes};
+ghost use Rattle.capi.specs.Judgement.{judgement, verdict-judgement, Judges};
 
 #[no_mangle]
 pub extern "C" fn dowelbrook_mix(a: &[u32], b: &[u32], m: u32, out: &mut [u32]) -> Reply
@@ -24,4 +29,82 @@ pub extern "C" fn dowelbrook_fold(a: &[u32], m: u32, out: &mut [u32]) -> Reply
     ensures { λ r. ⌜ Replied (λ answer. Folds (now (a .entry)) m (now (out .entry)) answer (now (out .exit))) r ⌝ }
 {
     reply_of(calls::fold(a, m, out))
+}
+
+#[no_mangle]
+pub extern "C" fn dowelbrook_invert(
+    f: &[u32],
+    m: u32,
+    primes: &[u32],
+    exponents: &[u8],
+    out: &mut [u32],
+) -> Reply
+    ensures { λ r. ⌜ Replied (λ answer. Inverts (now (f .entry)) m (now (primes .entry)) (now (exponents .entry)) (now (out .entry)) answer (now (out .exit))) r ⌝ }
+{
+    reply_of(inverter::invert(f, m, primes, exponents, out))
+}
+
+#[no_mangle]
+pub extern "C" fn dowelbrook_unmix(
+    f: &[u32],
+    y: &[u32],
+    m: u32,
+    primes: &[u32],
+    exponents: &[u8],
+    out: &mut [u32],
+) -> Reply
+    ensures { λ r. ⌜ Replied (λ answer. Unmixes (now (f .entry)) (now (y .entry)) m (now (primes .entry)) (now (exponents .entry)) (now (out .entry)) answer (now (out .exit))) r ⌝ }
+{
+    reply_of(inverter::unmix(f, y, m, primes, exponents, out))
+}
+
+// A reply, and whether the feedings are the same: 1 or 0.
+#[repr(C)]
+pub struct Judgement {
+    pub number: u32,
+    pub prime: u32,
+    pub ring: usize,
+    pub place: usize,
+    pub same: usize,
+}
+
+fn with_reply(reply: Reply, same: usize) -> Judgement
+    ensures { λ r. ⌜ r ≡ judgement reply same ⌝ }
+{
+    Judgement {
+        number: reply.number,
+        prime: reply.prime,
+        ring: reply.ring,
+        place: reply.place,
+        same,
+    }
+}
+
+fn judgement_of(verdict: Verdict) -> Judgement
+    ensures { λ r. ⌜ r ≡ verdict-judgement verdict ⌝ }
+{
+    match verdict {
+        Verdict::Yes => with_reply(reply_of(Answer::Done), 1),
+        Verdict::No => with_reply(reply_of(Answer::Done), 0),
+        Verdict::Singular { ring, prime } => with_reply(
+            reply_of(Answer::Singular { ring, prime }),
+            0,
+        ),
+        Verdict::Refused(refusal) => with_reply(reply_of(Answer::Refused(refusal)), 0),
+    }
+}
+
+#[no_mangle]
+pub extern "C" fn dowelbrook_same_feeding(
+    f1: &[u32],
+    y1: &[u32],
+    f2: &[u32],
+    y2: &[u32],
+    m: u32,
+    primes: &[u32],
+    exponents: &[u8],
+) -> Judgement
+    ensures { λ r. ⌜ Judges (now (f1 .entry)) (now (y1 .entry)) (now (f2 .entry)) (now (y2 .entry)) m (now (primes .entry)) (now (exponents .entry)) r ⌝ }
+{
+    judgement_of(inverter::same_feeding(f1, y1, f2, y2, m, primes, exponents))
 }

@@ -1,6 +1,6 @@
 use super::Call;
 use crate::case::{Answer, Case};
-use crate::door::{Number, Number::*, Reply, DONE};
+use crate::door::{Number, Number::*, Reply, Verdict};
 use crate::draw;
 use crate::figures::{limits, worked, Figure};
 use crate::lent::Loan;
@@ -10,6 +10,7 @@ pub const CALL: Call = Call {
     name: "fold",
     rings: 1,
     order: &[Empty, Large, Modulus, Coefficient, Divisor],
+    patterns: &[],
     complete,
     ask,
     answer,
@@ -21,11 +22,11 @@ extern "C" {
         -> Reply;
 }
 
-fn ask(loan: &mut Loan) -> Reply {
+fn ask(loan: &mut Loan) -> Verdict {
     let a = loan.rings[0].content();
     let out = loan.out.content_mut();
     // Each pointer goes with its slice's length, and the output is a buffer of its own.
-    unsafe { dowelbrook_fold(a.as_ptr(), a.len(), loan.m, out.as_mut_ptr(), out.len()) }
+    unsafe { dowelbrook_fold(a.as_ptr(), a.len(), loan.m, out.as_mut_ptr(), out.len()) }.into()
 }
 
 fn complete(case: &mut Case, faults: &[Number], random: &mut Random) {
@@ -41,11 +42,11 @@ fn answer(case: &Case) -> Answer {
             case.rings[0].iter().enumerate().filter(there).map(|(_, &entry)| entry as u128).sum();
         (sum % case.m as u128) as u32
     };
-    Answer { reply: DONE, out: (0..case.out.len()).map(entry).collect() }
+    Answer::done((0..case.out.len()).map(entry).collect())
 }
 
 fn onto(length: usize, ring: Vec<u32>, m: u32) -> Case {
-    Case { rings: vec![ring], m, divisor: None, out: vec![7; length] }
+    Case { rings: vec![ring], m, out: vec![7; length], ..Case::default() }
 }
 
 fn figures() -> Vec<Figure> {
@@ -56,7 +57,7 @@ fn figures() -> Vec<Figure> {
     // The largest sum there is: m - 1 is -1 modulo m.
     figures.push(worked(onto(1, vec![999_999; 1_024], 1_000_000), vec![1_000_000 - 1_024]));
     for length in [0, 3, 5, 8] {
-        figures.push((onto(length, vec![1, 2, 3, 4], 10), Divisor.bare(), None));
+        figures.push((onto(length, vec![1, 2, 3, 4], 10), Divisor.bare().into(), None));
     }
     figures
 }

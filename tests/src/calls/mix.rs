@@ -1,6 +1,6 @@
 use super::Call;
 use crate::case::{Answer, Case};
-use crate::door::{Number::*, Reply, DONE};
+use crate::door::{Number::*, Reply, Verdict};
 use crate::draw;
 use crate::figures::{limits, worked, Figure};
 use crate::lent::Loan;
@@ -9,6 +9,7 @@ pub const CALL: Call = Call {
     name: "mix",
     rings: 2,
     order: &[Empty, Large, Mismatch, Modulus, Coefficient, Room],
+    patterns: &[],
     complete: draw::output,
     ask,
     answer,
@@ -27,7 +28,7 @@ extern "C" {
     ) -> Reply;
 }
 
-fn ask(loan: &mut Loan) -> Reply {
+fn ask(loan: &mut Loan) -> Verdict {
     let (a, b) = (loan.rings[0].content(), loan.rings[1].content());
     let out = loan.out.content_mut();
     // Each pointer goes with its slice's length, and the output is a buffer of its own.
@@ -42,10 +43,11 @@ fn ask(loan: &mut Loan) -> Reply {
             out.len(),
         )
     }
+    .into()
 }
 
 fn answer(case: &Case) -> Answer {
-    Answer { reply: DONE, out: product(&case.rings[0], &case.rings[1], case.m) }
+    Answer::done(product(&case.rings[0], &case.rings[1], case.m))
 }
 
 /// "entry k of the product of a and b is the sum over i of a_i times b_((k-i) mod n), modulo m"
@@ -61,12 +63,12 @@ pub fn product(a: &[u32], b: &[u32], m: u32) -> Vec<u32> {
 
 fn squared(ring: Vec<u32>, m: u32) -> Case {
     let out = vec![7; ring.len()];
-    Case { rings: vec![ring.clone(), ring], m, divisor: None, out }
+    Case { rings: vec![ring.clone(), ring], m, out, ..Case::default() }
 }
 
 fn figures() -> Vec<Figure> {
-    let pattern_and_counts =
-        Case { rings: vec![vec![1, 2, 0], vec![1, 0, 5]], m: 10, divisor: None, out: vec![7; 3] };
+    let rings = vec![vec![1, 2, 0], vec![1, 0, 5]];
+    let pattern_and_counts = Case { rings, m: 10, out: vec![7; 3], ..Case::default() };
     let mut figures = limits(squared);
     // The matrix applied to a column would give [1, 0, 7].
     figures.push(worked(pattern_and_counts, vec![1, 2, 5]));

@@ -1,11 +1,11 @@
-use super::circulant::{solve, Solution};
 use super::counts::Counts;
 use super::door::{self, Kind, Outcome};
-use super::patterns::{self, difference, ones, Pattern};
-use super::primes::Primes;
 use super::Part;
 use crate::calls::mix::product;
+use crate::circulant::{solve, Solution};
 use crate::draw::{any_words, divisors, other_length};
+use crate::patterns::{self, difference, ones, Pattern};
+use crate::primes::PRIMES;
 use crate::random::Random;
 
 /// A reason to refuse is counted where it is the only one.
@@ -53,7 +53,7 @@ fn compare(counts: &mut Counts, random: &mut Random) -> Result<(), String> {
             all_patterns(n, p, counts, random)?;
         }
     }
-    let primes = Primes::new().below(1_000_000);
+    let primes = PRIMES.below(1_000_000);
     for _ in 0..DRAWN {
         let n = length(random);
         drawn(n, prime(n, &primes, random), counts, random)?;
@@ -175,7 +175,7 @@ fn by_products(n: usize, p: u32, counts: &mut Counts, random: &mut Random) -> Re
 /// A pattern with an inverse: of those drawn the first for which one is answered.
 fn unit(n: usize, p: u32, counts: &mut Counts, random: &mut Random) -> Result<Vec<u32>, String> {
     for _ in 0..100 {
-        let pattern = Pattern { f: (0..n).map(|_| random.between(0, p - 1)).collect(), p };
+        let pattern = Pattern { f: patterns::any(n, p, random), p };
         let (outcome, answer) = observe(&pattern, &any_words(n, random), random)?;
         let inverse = outcome.kind == Kind::Inverse as u32;
         let expected = if inverse { ones(n, 1, 1) } else { vec![0; n] };

@@ -1,7 +1,7 @@
 use super::counts::Counts;
 use super::door::{self, Kind, Number};
-use super::primes::times;
 use super::Part;
+use crate::primes::times;
 use crate::random::Random;
 
 pub const PART: Part = Part {

@@ -4,15 +4,12 @@
 use crate::random::Random;
 use counts::Counts;
 
-mod circulant;
 mod counts;
 mod door;
 mod euclid;
 mod factors;
 mod inverse;
-mod patterns;
 mod prime;
-mod primes;
 mod rounds;
 
 pub struct Part {

@@ -1,6 +1,6 @@
 use super::counts::Counts;
-use super::primes::Primes;
 use super::{door, Part};
+use crate::primes::{Primes, HALVES, PRIMES};
 use crate::random::Random;
 
 pub const PART: Part = Part {
@@ -21,28 +21,27 @@ const EXHAUSTIVE: u32 = 1 << 20;
 const WORDS: usize = 30_000;
 
 fn compare(counts: &mut Counts, random: &mut Random) -> Result<(), String> {
-    let primes = Primes::new();
-    let halves = primes.below(1 << 16);
+    let (primes, halves) = (&*PRIMES, &*HALVES);
     let numbers = (0..=EXHAUSTIVE)
         .chain((2..32).flat_map(|i| (1 << i) - 3..=(1u32 << i) + 3))
         .chain(u32::MAX - 1_998..=u32::MAX)
-        .chain(around_squares(&halves))
-        .chain(neighbours_multiplied(&halves))
-        .chain(liars(&halves, &primes));
+        .chain(around_squares(halves))
+        .chain(neighbours_multiplied(halves))
+        .chain(liars(halves, primes));
     for n in numbers {
-        agree(n, &primes, counts)?;
+        agree(n, primes, counts)?;
     }
     for _ in 0..WORDS {
-        agree(random.between(0, u32::MAX), &primes, counts)?;
-        agree(random.between(EXHAUSTIVE, 4 * EXHAUSTIVE + 10_000), &primes, counts)?;
+        agree(random.between(0, u32::MAX), primes, counts)?;
+        agree(random.between(EXHAUSTIVE, 4 * EXHAUSTIVE + 10_000), primes, counts)?;
     }
-    for p in &halves {
+    for p in halves {
         counts.meet("square of a prime");
-        agree(p * p, &primes, counts)?;
+        agree(p * p, primes, counts)?;
     }
-    for n in carmichael_numbers(&primes) {
+    for n in carmichael_numbers(primes) {
         counts.meet_if(!primes.sieved(n), "Carmichael number beyond the sieve");
-        agree(n, &primes, counts)?;
+        agree(n, primes, counts)?;
     }
     Ok(())
 }

@@ -1,13 +1,20 @@
 //! Primes, by a sieve as far as it goes, and beyond it by Miller and Rabin's test.
 
+use std::sync::LazyLock;
+
 const SIEVED: usize = 1 << 22;
+
+pub static PRIMES: LazyLock<Primes> = LazyLock::new(Primes::new);
+
+/// The primes below 2^16, rising.
+pub static HALVES: LazyLock<Vec<u32>> = LazyLock::new(|| PRIMES.below(1 << 16));
 
 pub struct Primes {
     sieve: Vec<bool>,
 }
 
 impl Primes {
-    pub fn new() -> Self {
+    fn new() -> Self {
         let mut sieve = vec![true; SIEVED];
         sieve[..2].fill(false);
         for n in 2..SIEVED {
@@ -58,7 +65,7 @@ fn passes(n: u32, base: u32) -> bool {
 
 pub fn power(base: u32, exponent: u32, m: u32) -> u32 {
     let mut power = 1 % m;
-    for place in (0..u32::BITS).rev() {
+    for place in (0..u32::BITS - exponent.leading_zeros()).rev() {
         power = times(power, power, m);
         if exponent >> place & 1 == 1 {
             power = times(power, base, m);
@@ -68,5 +75,5 @@ pub fn power(base: u32, exponent: u32, m: u32) -> u32 {
 }
 
 pub fn times(a: u32, b: u32, m: u32) -> u32 {
-    (u128::from(a) * u128::from(b) % u128::from(m)) as u32
+    (u64::from(a) * u64::from(b) % u64::from(m)) as u32
 }

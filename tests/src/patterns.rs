@@ -1,8 +1,10 @@
-//! Draws patterns modulo a prime, many of them singular.
+//! Draws patterns: modulo a prime, many of them singular; and units and singular ones modulo m.
 
 use crate::calls::mix::product;
+use crate::circulant::shadow;
 use crate::draw::{divisors, ring};
-use crate::probe::primes::power;
+use crate::factors::List;
+use crate::primes::power;
 use crate::random::Random;
 
 #[derive(Clone, Debug)]
@@ -65,4 +67,46 @@ fn many_roots(mut f: Vec<u32>, p: u32, random: &mut Random) -> Vec<u32> {
         f = product(&f, &difference(n, 1, root_of_unity(n, p, random), p), p);
     }
     f
+}
+
+/// A pattern that has an inverse modulo m.
+pub fn unit(n: usize, m: u32, random: &mut Random) -> Vec<u32> {
+    let mut f = ring(n, m, random);
+    for p in List::of(m).primes {
+        while shadow(&f, p).is_some() {
+            f = replaced(&f, p, &any(n, p, random), m);
+        }
+    }
+    f
+}
+
+/// A pattern for which one prime of m is singular, or several, or all.
+pub fn singular(n: usize, m: u32, random: &mut Random) -> Vec<u32> {
+    let mut f = if random.below(4) == 0 { ring(n, m, random) } else { unit(n, m, random) };
+    let primes = List::of(m).primes;
+    let certain = random.below(primes.len());
+    for (place, &p) in primes.iter().enumerate() {
+        if place == certain || random.below(3) == 0 {
+            while shadow(&f, p).is_none() {
+                f = replaced(&f, p, &draw(n, p, random).f, m);
+            }
+        }
+    }
+    f
+}
+
+/// The ring that is `other` modulo the prime p of m, and f modulo the other primes of m.
+pub fn replaced(f: &[u32], p: u32, other: &[u32], m: u32) -> Vec<u32> {
+    let rest: u32 = List::of(m).primes.iter().filter(|&&q| q != p).product();
+    let only_here = u64::from(rest) * u64::from(power(rest % p, p - 2, p));
+    let entry = |(&old, &new): (&u32, &u32)| {
+        let step = u64::from(new + p - old % p);
+        ((u64::from(old) + step * only_here) % u64::from(m)) as u32
+    };
+    f.iter().zip(other).map(entry).collect()
+}
+
+/// n entries below m, all equally likely.
+pub fn any(n: usize, m: u32, random: &mut Random) -> Vec<u32> {
+    (0..n).map(|_| random.between(0, m - 1)).collect()
 }
