@@ -1,4 +1,5 @@
-// The figures of document 01 that are run and not proved: the limits of n, of m and of an entry, and the matrix applied to a column.
+// The figures of document 01 that are run and not proved: the limits of n, of m and of an entry, the matrix applied to a column, one lifting round,
+// and factor lists.
 use answer::Answer;
 use answer::reply_of;
 use show::entries;
@@ -65,10 +66,46 @@ fn folded() {
     say_ring(b"fold:", &out);
 }
 
+// Document 01's first error: [1,6] is right modulo 4, and modulo 8 its product with [1,2] is 5; all rounds give [5,6].
+fn rounds() {
+    let mut low = [0u32; 2];
+    let mut out = [0u32; 2];
+    calls::mix(&[1, 2], &[1, 6], 8, &mut out);
+    say_ring(b"one round, modulo 8:", &out);
+    calls::reduce(&[1, 6], 8, 4, &mut low);
+    calls::mix(&[1, 2], &low, 4, &mut out);
+    say_ring(b"one round, modulo 4:", &out);
+    inverter::invert(&[1, 2], 8, &[2], &[3], &mut out);
+    say_ring(b"all rounds:", &out);
+}
+
+// Lists for m 12.
+fn factor_lists() {
+    let mut out = [0u32; 1];
+    say(
+        b"2 3 with 2 1:",
+        inverter::invert(&[1], 12, &[2, 3], &[2, 1], &mut out),
+    );
+    say(
+        b"4 3 with 1 1:",
+        inverter::invert(&[1], 12, &[4, 3], &[1, 1], &mut out),
+    );
+    say(
+        b"3 2 with 1 2:",
+        inverter::invert(&[1], 12, &[3, 2], &[1, 2], &mut out),
+    );
+    say(
+        b"2 3 with 255 1:",
+        inverter::invert(&[1], 12, &[2, 3], &[255, 1], &mut out),
+    );
+}
+
 fn main() {
     sizes();
     moduli();
     largest_entries();
     row_and_column();
     folded();
+    rounds();
+    factor_lists();
 }
