@@ -75,11 +75,5 @@ invert-passes f m ps es len g e = order-passes f [] m _ _ (g .legal) (factors-no
 pub unmix-granted : (f y : List ℕ) (m : ℕ) (ps es : List ℕ) (len : ℕ) → first (unmix-order f y m ps es len) ≡ Passed → Granted f (y ∷ []) m ps es × (len ≡ length f)
 unmix-granted f y m ps es len e = let t = granted f (y ∷ []) m ps es _ e in (t .0, room-of (length f) len (t .1))
 
-pub unmix-passes : (f y : List ℕ) (m : ℕ) (ps es : List ℕ) (len : ℕ) → Granted f (y ∷ []) m ps es → len ≡ length f → first (unmix-order f y m ps es len) ≡ Passed
-unmix-passes f y m ps es len g e = order-passes f (y ∷ []) m _ _ (g .legal) (factors-none m ps es (g .factors)) (room-fits (length f) len e)
-
 pub same-granted : (f₁ y₁ f₂ y₂ : List ℕ) (m : ℕ) (ps es : List ℕ) → first (same-order f₁ y₁ f₂ y₂ m ps es) ≡ Passed → Granted f₁ (y₁ ∷ f₂ ∷ y₂ ∷ []) m ps es
 same-granted f₁ y₁ f₂ y₂ m ps es e = granted f₁ (y₁ ∷ f₂ ∷ y₂ ∷ []) m ps es [] e .0
-
-pub same-passes : (f₁ y₁ f₂ y₂ : List ℕ) (m : ℕ) (ps es : List ℕ) → Granted f₁ (y₁ ∷ f₂ ∷ y₂ ∷ []) m ps es → first (same-order f₁ y₁ f₂ y₂ m ps es) ≡ Passed
-same-passes f₁ y₁ f₂ y₂ m ps es g = order-passes f₁ (y₁ ∷ f₂ ∷ y₂ ∷ []) m _ [] (g .legal) (factors-none m ps es (g .factors)) refl

@@ -12,7 +12,7 @@ use Rattle.ring.specs.Inverse.{Inverse}
 use Rattle.convolve.specs.Mixable.{Mixable}
 use Rattle.convolve.proofs.Rings.{rings-mixable, low-everywhere}
 use Rattle.inverter.specs.Counts.{Unmixed}
-use Rattle.inverter.specs.Inner.{Solvable, Factored, Means, Solved, Multipliable, InvertMeans, Invertion, InvertLegal, Unmixable, UnmixMeans, Unmixing, UnmixLegal}
+use Rattle.inverter.specs.Inner.{Solvable, Factored, Means, Solved, Multipliable, InvertMeans, Inverting, InvertLegal, Unmixable, UnmixMeans, Unmixing, UnmixLegal}
 use Rattle.inverter.specs.Contracts.{invert-order, unmix-order, Inverts, Unmixes}
 use Rattle.inverter.specs.declared.Inversion.{Inversion}
 use Rattle.inverter.specs.declared.Inversion.the-variants.{Inverted, Ghost}
@@ -33,7 +33,7 @@ module _ {f ps es room g acc g′ acc′ : List ℕ} {m : ℕ} {r : Inversion} (
 
   -- ---- invert
 
-  pub inverse-told : r ≡ Inverted → Invertion f m ps acc′ Inverted
+  pub inverse-told : r ≡ Inverted → Inverting f m ps acc′ Inverted
   inverse-told e = record { means = found e }
 
   module _ {p : ℕ} (e : r ≡ Ghost p) where
@@ -51,7 +51,7 @@ module _ {f ps es room g acc g′ acc′ : List ℕ} {m : ℕ} {r : Inversion} (
       low = λ k. le-trans (mul-le-mul-left {m = at g′ k} {n = p} (m / p) (omega (arith, low-everywhere (length f) p g′ ghost-prime (found e .1 .ring) k))) (omega (arith, prime-of .1, pre .factored .high));
     }
 
-    pub ghost-told : {out : List ℕ} → out ≡ table (length g′) (λ k. m / p * at g′ k) → Invertion f m ps out (Ghost p)
+    pub ghost-told : {out : List ℕ} → out ≡ table (length g′) (λ k. m / p * at g′ k) → Inverting f m ps out (Ghost p)
     ghost-told o = record { means = (found e .0, record { w = g′; polynomial = found e .1; times = o ∙ ap (λ (n : ℕ). table n (λ k. m / p * at g′ k)) (found e .1 .ring .long) }) }
 
 -- ---- unmix
@@ -82,7 +82,7 @@ module _ {f ps es old : List ℕ} {m : ℕ} (e : first (invert-order f m ps es (
   pub invert-ready : InvertLegal f m ps es old
   invert-ready = let g = invert-granted f m ps es (length old) e in record { factored = factored-of (g .0); out-long = g .1 }
 
-  module _ {new : List ℕ} {r : Inversion} (i : Invertion f m ps new r) where
+  module _ {new : List ℕ} {r : Inversion} (i : Inverting f m ps new r) where
     pub invert-done : r ≡ Inverted → Inverts f m ps es old Done new
     invert-done q = record { meets = (e, subst (InvertMeans f m ps new) q (i .means)) }
 

@@ -68,12 +68,18 @@ pub record RingThree (n m : ℕ) (f₁ f₂ ps : List ℕ) (ring prime : ℕ) : 
   pub invertible : Invertible n m f₁
   pub smallest : Smallest n f₂ ps prime
 
--- "Yes exactly when the two unmixed count rings are equal entry by entry."
+-- "Yes exactly when the two unmixed count rings are equal entry by entry." What a verdict says of a legal call, which is never refused.
+abbrev pub VerdictMeans : (n m : ℕ) → (f₁ y₁ f₂ y₂ ps : List ℕ) → Verdict → Type 0
+VerdictMeans n m f₁ y₁ f₂ y₂ ps Yes = Compared n m f₁ y₁ f₂ y₂ (Same n)
+VerdictMeans n m f₁ y₁ f₂ y₂ ps No = Compared n m f₁ y₁ f₂ y₂ (λ c₁ c₂. ¬ Same n c₁ c₂)
+VerdictMeans n m f₁ y₁ f₂ y₂ ps (Singular ring prime) = RingOne n f₁ ps ring prime ⊎ RingThree n m f₁ f₂ ps ring prime
+VerdictMeans n m f₁ y₁ f₂ y₂ ps (Refused r) = ⊥
+
 abbrev pub Judges : (n m : ℕ) → (f₁ y₁ f₂ y₂ ps : List ℕ) → List Check → Verdict → Type 0
-Judges n m f₁ y₁ f₂ y₂ ps checks Yes = (first checks ≡ check.Passed) × Compared n m f₁ y₁ f₂ y₂ (Same n)
-Judges n m f₁ y₁ f₂ y₂ ps checks No = (first checks ≡ check.Passed) × Compared n m f₁ y₁ f₂ y₂ (λ c₁ c₂. ¬ Same n c₁ c₂)
-Judges n m f₁ y₁ f₂ y₂ ps checks (Singular ring prime) = (first checks ≡ check.Passed) × (RingOne n f₁ ps ring prime ⊎ RingThree n m f₁ f₂ ps ring prime)
 Judges n m f₁ y₁ f₂ y₂ ps checks (Refused r) = first checks ≡ check.Refused r
+Judges n m f₁ y₁ f₂ y₂ ps checks Yes = (first checks ≡ check.Passed) × VerdictMeans n m f₁ y₁ f₂ y₂ ps Yes
+Judges n m f₁ y₁ f₂ y₂ ps checks No = (first checks ≡ check.Passed) × VerdictMeans n m f₁ y₁ f₂ y₂ ps No
+Judges n m f₁ y₁ f₂ y₂ ps checks (Singular ring prime) = (first checks ≡ check.Passed) × VerdictMeans n m f₁ y₁ f₂ y₂ ps (Singular ring prime)
 
 pub record SameFeeding (f₁ y₁ f₂ y₂ : List ℕ) (m : ℕ) (ps es : List ℕ) (verdict : Verdict) : Type 0 where
   pub meets : Judges (length f₁) m f₁ y₁ f₂ y₂ ps (same-order f₁ y₁ f₂ y₂ m ps es) verdict

@@ -18,9 +18,8 @@ use Rattle.inverter.specs.GhostPolynomial.{GhostPolynomial}
 use Rattle.inverter.specs.Ghost as ghosts
 use Rattle.inverter.specs.Counts.{Unmixed}
 use Rattle.inverter.specs.Same.{Same}
-use Rattle.inverter.specs.Contracts.{Compared, RingOne, RingThree}
+use Rattle.inverter.specs.Contracts.{VerdictMeans}
 use Rattle.inverter.specs.declared.Verdict.{Verdict}
-use Rattle.inverter.specs.declared.Verdict.the-variants as verdict
 use Rattle.inverter.specs.declared.Inversion.{Inversion}
 use Rattle.inverter.specs.declared.Inversion.the-variants.{Inverted, Ghost}
 use Rattle.inverter.specs.declared.Step.{Step}
@@ -108,7 +107,7 @@ abbrev pub InvertMeans : List ℕ → ℕ → List ℕ → List ℕ → Inversio
 InvertMeans f m ps out Inverted = Inverse (length f) m f out
 InvertMeans f m ps out (Ghost p) = Smallest (length f) f ps p × ghosts.Ghost (length f) m f p out
 
-pub record Invertion (f : List ℕ) (m : ℕ) (ps out : List ℕ) (r : Inversion) : Type 0 where
+pub record Inverting (f : List ℕ) (m : ℕ) (ps out : List ℕ) (r : Inversion) : Type 0 where
   pub means : InvertMeans f m ps out r
 
 pub record Unmixable (f y : List ℕ) (m : ℕ) (ps es room g acc out : List ℕ) : Type 0 where
@@ -182,11 +181,5 @@ pub record SameWith (f₁ y₁ f₂ y₂ : List ℕ) (m : ℕ) (ps es room g acc
   pub c₂-room : length f₁ ≤ length c₂
 
 -- The verdict on a legal call.
-abbrev pub JudgeMeans : ℕ → ℕ → List ℕ → List ℕ → List ℕ → List ℕ → List ℕ → Verdict → Type 0
-JudgeMeans n m f₁ y₁ f₂ y₂ ps verdict.Yes = Compared n m f₁ y₁ f₂ y₂ (Same n)
-JudgeMeans n m f₁ y₁ f₂ y₂ ps verdict.No = Compared n m f₁ y₁ f₂ y₂ (λ c₁ c₂. ¬ Same n c₁ c₂)
-JudgeMeans n m f₁ y₁ f₂ y₂ ps (verdict.Singular ring prime) = RingOne n f₁ ps ring prime ⊎ RingThree n m f₁ f₂ ps ring prime
-JudgeMeans n m f₁ y₁ f₂ y₂ ps (verdict.Refused r) = ⊥
-
 pub record Judged (n m : ℕ) (f₁ y₁ f₂ y₂ ps : List ℕ) (v : Verdict) : Type 0 where
-  pub means : JudgeMeans n m f₁ y₁ f₂ y₂ ps v
+  pub means : VerdictMeans n m f₁ y₁ f₂ y₂ ps v

@@ -23,7 +23,7 @@ ghost use Rattle.sums.specs.Table.{at, table};
 ghost use Rattle.ring.specs.Reduce.{reduce};
 ghost use Rattle.ring.specs.One.{zeros};
 ghost use Rattle.poly.specs.Answer.{Answers};
-ghost use Rattle.inverter.specs.Inner.{Power, Prepared, PowerPrepared, PowerFound, JoinsPower, Joins, Stepped, Solvable, Solved, Multipliable, Invertion, InvertWith, InvertLegal, Unmixable, Unmixing, UnmixWith, UnmixLegal, TellsSame, SameIn, Judged, SameWith, SameLegal};
+ghost use Rattle.inverter.specs.Inner.{Power, Prepared, PowerPrepared, PowerFound, JoinsPower, Joins, Stepped, Solvable, Solved, Multipliable, Inverting, InvertWith, InvertLegal, Unmixable, Unmixing, UnmixWith, UnmixLegal, TellsSame, SameIn, Judged, SameWith, SameLegal};
 ghost use Rattle.answer.specs.Order.{first};
 ghost use Rattle.inverter.specs.Contracts.{invert-order, unmix-order, same-order, Inverts, Unmixes, SameFeeding};
 ghost use Rattle.lift.specs.Asks.{Joined};
@@ -179,7 +179,7 @@ fn invert_in(
     out: &mut [u32],
 ) -> Inversion
     requires { ⌜ Solvable (now f) m (now primes) (now exponents) (now room) (now g) (now out) ⌝ }
-    ensures { λ r. ⌜ Invertion (now (f .entry)) m (now (primes .entry)) (now (out .exit)) r ⌝ }
+    ensures { λ r. ⌜ Inverting (now (f .entry)) m (now (primes .entry)) (now (out .exit)) r ⌝ }
 {
     match solve(f, primes, exponents, room, g, out) {
         Inversion::Inverted => Inversion::Inverted,
@@ -224,7 +224,7 @@ fn invert_with(
     out: &mut [u32],
 ) -> Inversion
     requires { ⌜ InvertWith (now f) m (now primes) (now exponents) (now room) (now g) (now out) ⌝ }
-    ensures { λ r. ⌜ Invertion (now (f .entry)) m (now (primes .entry)) (now (out .exit)) r ⌝ }
+    ensures { λ r. ⌜ Inverting (now (f .entry)) m (now (primes .entry)) (now (out .exit)) r ⌝ }
 {
     let n = f.len();
     invert_in(f, m, primes, exponents, &mut room[..n], &mut g[..n], out)
@@ -232,7 +232,7 @@ fn invert_with(
 
 fn invert_legal(f: &[u32], m: u32, primes: &[u32], exponents: &[u8], out: &mut [u32]) -> Inversion
     requires { ⌜ InvertLegal (now f) m (now primes) (now exponents) (now out) ⌝ }
-    ensures { λ r. ⌜ Invertion (now (f .entry)) m (now (primes .entry)) (now (out .exit)) r ⌝ }
+    ensures { λ r. ⌜ Inverting (now (f .entry)) m (now (primes .entry)) (now (out .exit)) r ⌝ }
 {
     let mut room = [0u32; MOST_ENTRIES];
     let mut g = [0u32; MOST_ENTRIES];

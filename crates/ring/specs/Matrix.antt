@@ -9,9 +9,6 @@ use Rattle.sums.specs.Table.{at, table}
 abbrev pub circulant : ℕ → List ℕ → ℕ → ℕ → ℕ
 circulant n a i j = at a ((j + (n - i)) % n)
 
--- The row c times the matrix A, and the matrix A times the column c, modulo m.
+-- The row c times the matrix A, modulo m.
 unfoldable pub row-times : ℕ → ℕ → List ℕ → (ℕ → ℕ → ℕ) → List ℕ
 row-times n m c A = table n (λ j. sum n (λ i. at c i * A i j) % m)
-
-unfoldable pub times-column : ℕ → ℕ → (ℕ → ℕ → ℕ) → List ℕ → List ℕ
-times-column n m A c = table n (λ i. sum n (λ j. A i j * at c j) % m)

@@ -5,8 +5,8 @@ use mathlib.Core.List.{List, _++_, append-assoc, append-nil}
 use Prim.Native.Nat.{ℕ, suc, _+_, _<_, _≤_}
 use native.Mathlib.Numerals.{add-one}
 use native.Mathlib.Omega.{arith}
-use lib.ListN.{length, take, drop, set, getD, length-append, length-drop}
-use lib.Seq.{drop-cons, drop-length, set-at, take-at}
+use lib.ListN.{length, drop, set, getD, length-append, length-drop}
+use lib.Seq.{drop-cons, drop-length, set-at}
 use Rattle.sums.specs.Table.{table}
 use Rattle.sums.proofs.Tables.{length-table, table-none, table-last}
 
@@ -22,7 +22,3 @@ fill-all f d k e = simp (e, drop-length, append-nil)
 
 pub fill-length : (f : ℕ → ℕ) (d : List ℕ) (k : ℕ) → k ≤ length d → length (table k f ++ drop k d) ≡ length d
 fill-length f d k h = simp (length-append, length-table, length-drop) (omega arith)
-
--- The part that is filled.
-pub fill-front : (f : ℕ → ℕ) (d : List ℕ) (k : ℕ) → take k (table k f ++ d) ≡ table k f
-fill-front f d k = take-at (table k f) d k (length-table k f)
