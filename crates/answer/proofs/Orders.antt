@@ -38,6 +38,14 @@ pub first-append : (k l : List Check) → first (k ++ l) ≡ or (first k) (first
 first-append [] l = refl
 first-append (c ∷ k) l = rw (first-append k l) (sym (or-assoc c (first k) (first l)))
 
+pub or-both : {r a b c d : Check} → r ≡ or a b → a ≡ c → b ≡ d → r ≡ or c d
+or-both {a = a} {d = d} e h k = e ∙ ap (or a) k ∙ ap (λ (x : Check). or x d) h
+
+-- Two checks of one case, one after the other, refuse where one test holds or the other.
+pub or-either : (s t : Bool) (k : Case) (ring place : ℕ) {x y : Check} → x ≡ refuse-if s k ring place → y ≡ refuse-if t k ring place → or x y ≡ refuse-if (s || t) k ring place
+or-either true t k ring place e d = rw e
+or-either false t k ring place e d = rw (e, d)
+
 -- A match on what the first checks found.
 pub or-go-on : {found before after r : Check} → found ≡ before → found ≡ Passed → r ≡ after → r ≡ or before after
 or-go-on {after = after} e p h = h ∙ ap (λ (x : Check). or x after) (sym p ∙ e)
@@ -54,11 +62,11 @@ cut k l e = both (first k) (first l) (sym (first-append k l) ∙ e)
 
 -- ---- single checks
 
-passes : (b : Bool) (c : Case) (ring place : ℕ) → refuse-if b c ring place ≡ Passed → b ≡ false
+pub passes : (b : Bool) (c : Case) (ring place : ℕ) → refuse-if b c ring place ≡ Passed → b ≡ false
 passes true c ring place e = absurd (let z : _≡_ {A = ℕ} 0 1 = cc in omega arith)
 passes false c ring place e = refl
 
-neither : (a b : Bool) → (a || b) ≡ false → (a ≡ false) × (b ≡ false)
+pub neither : (a b : Bool) → (a || b) ≡ false → (a ≡ false) × (b ≡ false)
 neither true b e = absurd (let z : _≡_ {A = ℕ} 0 1 = cc in omega arith)
 neither false b e = (refl, e)
 

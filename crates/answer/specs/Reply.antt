@@ -1,7 +1,7 @@
 -- An answer in document 01's numbers: 0 for done, else the number of its row of the table, with the values that the row tells and 0 for those that it does not.
 use Prim.Native.Nat.{ℕ}
 use mathlib.Core.Path.{_≡_}
-use Rattle.answer.specs.Numbers.{nothing, ring, ring-and-place, ring-and-prime, Row, row, refusal-row, singular-row}
+use Rattle.answer.specs.Numbers.{nothing, ring, ring-and-place, ring-and-prime, offset, Row, row, refusal-row, singular-row}
 use Rattle.answer.specs.declared.Refusal.{Refusal}
 use Rattle.answer.specs.declared.Answer.{Answer}
 use Rattle.answer.specs.declared.Answer.the-variants.{Done, Singular, Refused}
@@ -12,6 +12,7 @@ tell (row k nothing) r i p = record { number = k; prime = 0; ring = 0; place = 0
 tell (row k ring) r i p = record { number = k; prime = 0; ring = r; place = 0 }
 tell (row k ring-and-place) r i p = record { number = k; prime = 0; ring = r; place = i }
 tell (row k ring-and-prime) r i p = record { number = k; prime = p; ring = r; place = 0 }
+tell (row k offset) r i p = record { number = k; prime = 0; ring = 0; place = i }
 
 abbrev pub refusal-reply : Refusal → Reply
 refusal-reply r = tell (refusal-row (r .case)) (r .ring) (r .place) 0

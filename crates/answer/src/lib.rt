@@ -11,7 +11,7 @@ ghost use Rattle.answer.specs.Checks.{refuse-if, empty, large, mismatch,
 ghost use Rattle.answer.specs.Factors.{factors};
 ghost use Rattle.answer.specs.Reply.{refusal-reply, reply};
 
-// The refusals of document 01's table by name.
+// The refusals of document 01 by name: those of the table, then those of a sheet.
 pub enum Case {
     Empty,
     Large,
@@ -21,9 +21,14 @@ pub enum Case {
     Coefficient,
     Room,
     Divisor,
+    Cut,
+    Tag,
+    Length,
+    Missing,
+    Version,
 }
 
-// A refusal, with the ring and the place that it tells; 0 where it tells none.
+// A refusal, with the ring and the place that it tells; 0 where it tells none. A sheet's refusal has its offset for the place.
 pub struct Refusal {
     pub case: Case,
     pub ring: usize,
@@ -65,7 +70,7 @@ impl Check {
 }
 
 // A check that refuses where the test holds.
-fn refuse_if(test: bool, case: Case, ring: usize, place: usize) -> Check
+pub fn refuse_if(test: bool, case: Case, ring: usize, place: usize) -> Check
     ensures { λ r. ⌜ r ≡ refuse-if test case ring place ⌝ }
 {
     if test {
@@ -218,6 +223,11 @@ fn tell_refusal(r: Refusal) -> Reply
         Case::Coefficient => tell(6, r.ring, r.place, 0),
         Case::Room => tell(7, 0, 0, 0),
         Case::Divisor => tell(8, 0, 0, 0),
+        Case::Cut => tell(20, 0, r.place, 0),
+        Case::Tag => tell(21, 0, r.place, 0),
+        Case::Length => tell(22, 0, r.place, 0),
+        Case::Missing => tell(23, 0, r.place, 0),
+        Case::Version => tell(24, 0, r.place, 0),
     }
 }
 

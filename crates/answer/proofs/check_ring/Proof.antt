@@ -1,12 +1,12 @@
 -- `answer::check_ring` meets its contract: the checks of sizes, modulus and factors come first, and where they pass the entries decide.
 -- Assumes nothing.
-use mathlib.Core.Path.{_≡_, _∙_}
+use mathlib.Core.Path.{_≡_, refl, _∙_}
 use lib.ListN.{length}
 use denote.Ref.{now}
 use Rattle.limits.specs.Limits.{most-entries, least-modulus, most-modulus}
 use Rattle.answer.specs.Checks.{empty, large, modulus}
 use Rattle.answer.specs.Order.{or}
-use Rattle.answer.proofs.Orders.{or-go-on, or-stop, order-ring}
+use Rattle.answer.proofs.Orders.{or-both, or-go-on, or-stop, order-ring}
 use borrow.Author.Needs.{needs}
 use Rattle.answer.proofs.check_ring.Statement.{statement}
 use Rattle.answer.proofs.check_ring.Tie as tie
@@ -14,7 +14,13 @@ use Rattle.answer.proofs.check_ring.Tie as tie
 -- What the checks before the match found.
 shape : (d : tie.After-or3) → let given = d .before .before .before .before .before .before .before .args in
     d .or3 .result ≡ or (or (or (empty (length (now (given .a)))) (large most-entries (length (now (given .a))))) (modulus least-modulus most-modulus (given .m))) (given .factors)
-shape d = cc
+shape d =
+    let sizes = d .before .before .before in
+    or-both (d .or3 .ensures)
+    (or-both (d .before .or2 .ensures)
+    (or-both (sizes .or .ensures) (sizes .before .before .check-empty .ensures) (sizes .before .check-large .ensures))
+    (d .before .before .check-modulus .ensures))
+    refl
 
 check-empty-requires : tie.Need-check-empty-requires
 check-empty-requires c κs = search needs

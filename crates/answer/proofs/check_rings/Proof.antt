@@ -1,12 +1,12 @@
 -- `answer::check_rings` meets its contract, as `check_ring` does, with the lengths compared before and the second ring's entries after.
 -- Assumes nothing.
-use mathlib.Core.Path.{_≡_, _∙_}
+use mathlib.Core.Path.{_≡_, refl, _∙_}
 use lib.ListN.{length}
 use denote.Ref.{now}
 use Rattle.limits.specs.Limits.{most-entries, least-modulus, most-modulus}
 use Rattle.answer.specs.Checks.{empty, large, mismatch, modulus}
 use Rattle.answer.specs.Order.{or}
-use Rattle.answer.proofs.Orders.{or-go-on, or-stop, order-rings}
+use Rattle.answer.proofs.Orders.{or-both, or-go-on, or-stop, order-rings}
 use borrow.Author.Needs.{needs}
 use Rattle.answer.proofs.check_rings.Statement.{statement}
 use Rattle.answer.proofs.check_rings.Tie as tie
@@ -14,7 +14,16 @@ use Rattle.answer.proofs.check_rings.Tie as tie
 -- What the checks before the match found.
 shape : (d : tie.After-or4) → let given = d .before .before .before .before .before .before .before .before .before .before .args in
     d .or4 .result ≡ or (or (or (or (empty (length (now (given .a)))) (large most-entries (length (now (given .a))))) (mismatch (length (now (given .a))) 2 (length (now (given .b))))) (modulus least-modulus most-modulus (given .m))) (given .factors)
-shape d = cc
+shape d =
+    let lengths = d .before .before .before .before in
+    let sizes = lengths .before in
+    or-both (d .or4 .ensures)
+    (or-both (d .before .or3 .ensures)
+    (or-both (d .before .before .before .or2 .ensures)
+    (or-both (sizes .or .ensures) (sizes .before .before .check-empty .ensures) (sizes .before .check-large .ensures))
+    (lengths .check-mismatch .ensures))
+    (d .before .before .check-modulus .ensures))
+    refl
 
 check-empty-requires : tie.Need-check-empty-requires
 check-empty-requires c κs = search needs
@@ -56,7 +65,7 @@ enum-known-shape : tie.Need-enum-known-shape
 enum-known-shape c = search needs
 
 returns : tie.Need-returns
-returns c = or-go-on (shape (c .before .before .before .before .before)) (c .before .before .before .enum-told .given .1) (cc) ∙ order-rings _ _ _ _
+returns c = or-go-on (shape (c .before .before .before .before .before)) (c .before .before .before .enum-told .given .1) (or-both (c .or5 .ensures) (c .before .before .check-coefficient .ensures) (c .before .check-coefficient2 .ensures)) ∙ order-rings _ _ _ _
 
 returns-2 : tie.Need-returns-2
 returns-2 c = or-stop _ (shape (c .before .before .before)) (c .before .shape .given .1) ∙ order-rings _ _ _ _

@@ -60,6 +60,36 @@ enum-told-8 c = search needs
 tell-requires-8 : tie.Need-tell-requires-8
 tell-requires-8 c κs = search needs
 
+enum-told-9 : tie.Need-enum-told-9
+enum-told-9 c = search needs
+
+tell-requires-9 : tie.Need-tell-requires-9
+tell-requires-9 c κs = search needs
+
+enum-told-10 : tie.Need-enum-told-10
+enum-told-10 c = search needs
+
+tell-requires-10 : tie.Need-tell-requires-10
+tell-requires-10 c κs = search needs
+
+enum-told-11 : tie.Need-enum-told-11
+enum-told-11 c = search needs
+
+tell-requires-11 : tie.Need-tell-requires-11
+tell-requires-11 c κs = search needs
+
+enum-told-12 : tie.Need-enum-told-12
+enum-told-12 c = search needs
+
+tell-requires-12 : tie.Need-tell-requires-12
+tell-requires-12 c κs = search needs
+
+enum-told-13 : tie.Need-enum-told-13
+enum-told-13 c = search needs
+
+tell-requires-13 : tie.Need-tell-requires-13
+tell-requires-13 c κs = search needs
+
 returns : tie.Need-returns
 returns c = c .tell .ensures ∙ by-case _ (c .before .enum-told .given .1)
 
@@ -84,6 +114,21 @@ returns-7 c = c .tell7 .ensures ∙ by-case _ (c .before .enum-told7 .given .1)
 returns-8 : tie.Need-returns-8
 returns-8 c = c .tell8 .ensures ∙ by-case _ (c .before .enum-told8 .given .1)
 
+returns-9 : tie.Need-returns-9
+returns-9 c = c .tell9 .ensures ∙ by-case _ (c .before .enum-told9 .given .1)
+
+returns-10 : tie.Need-returns-10
+returns-10 c = c .tell10 .ensures ∙ by-case _ (c .before .enum-told10 .given .1)
+
+returns-11 : tie.Need-returns-11
+returns-11 c = c .tell11 .ensures ∙ by-case _ (c .before .enum-told11 .given .1)
+
+returns-12 : tie.Need-returns-12
+returns-12 c = c .tell12 .ensures ∙ by-case _ (c .before .enum-told12 .given .1)
+
+returns-13 : tie.Need-returns-13
+returns-13 c = c .tell13 .ensures ∙ by-case _ (c .before .enum-told13 .given .1)
+
 pub tell-refusal-spec : {M : Type 1} → statement M
 tell-refusal-spec =
     tie.close
@@ -104,6 +149,16 @@ tell-refusal-spec =
     tell-requires-7
     enum-told-8
     tell-requires-8
+    enum-told-9
+    tell-requires-9
+    enum-told-10
+    tell-requires-10
+    enum-told-11
+    tell-requires-11
+    enum-told-12
+    tell-requires-12
+    enum-told-13
+    tell-requires-13
     returns
     returns-2
     returns-3
@@ -111,4 +166,9 @@ tell-refusal-spec =
     returns-5
     returns-6
     returns-7
-    returns-8)
+    returns-8
+    returns-9
+    returns-10
+    returns-11
+    returns-12
+    returns-13)

@@ -1,0 +1,10 @@
+pub mod Bytes
+pub mod Steps
+pub mod Passes
+pub mod Walks
+pub mod Sound
+pub mod Table
+pub mod Joined
+pub mod Written
+pub mod OneAnswer
+pub mod Beyond

@@ -1,0 +1,131 @@
+-- A version 1 sheet written from its values reads back as exactly those values, and as without readings where there are none (what a writer of
+-- sheets needs). Its fields are well-formed, and each value stands where its part is told. Assumes nothing.
+use Prim.Native.Nat.{ℕ, _+_, _%_, _≤_}
+use mathlib.Core.Path.{_≡_, refl, sym, ap, _∙_}
+use mathlib.Core.Bool.{true}
+use mathlib.Core.List.{List, [], _∷_, _++_, append-assoc}
+use mathlib.Core.Option.{Option, none, some}
+use native.Mathlib.Omega.{arith}
+use lib.ListN.{length, take, drop, length-append}
+use Rattle.answer.specs.declared.Check.the-variants.{Passed}
+use Rattle.sheet.specs.Numbers.{big-endian}
+use Rattle.sheet.specs.Fields.{Field, header-bytes, absent, part-of}
+use Rattle.sheet.specs.Tags.{tags}
+use Rattle.sheet.specs.Walk.{accepted}
+use Rattle.sheet.specs.Joined.{Value, field-bytes, joined, placed, all-placed, version-1}
+use Rattle.sheet.specs.Sheets.{told, sheet-of}
+use Rattle.sheet.specs.declared.Part.{Part}
+use Rattle.sheet.specs.declared.Sheet.{Sheet}
+use Rattle.sheet.proofs.Bytes.{in-part}
+use Rattle.sheet.proofs.Joined.{Fits, WellFormed, value-stands, accepted-joined}
+use Rattle.sheet.proofs.Table.{right-modulus, right-factors, right-pattern, right-readings}
+
+-- The lengths of document 01's table.
+abbrev ReadingsFit : (pattern : List ℕ) → Option (List ℕ) → Type 0
+ReadingsFit pattern none = Unit {0}
+ReadingsFit pattern (some readings) = length readings ≡ length pattern
+
+pub record Lengths (modulus factors pattern : List ℕ) (readings : Option (List ℕ)) : Type 0 where
+  pub four : length modulus ≡ 4
+  pub fives : length factors % 5 ≡ 0
+  pub few : length factors ≤ 35
+  pub fours : length pattern % 4 ≡ 0
+  pub small : length pattern ≤ 4096
+  pub same : ReadingsFit pattern readings
+
+-- What reads back.
+abbrev bytes-of : (s : List ℕ) → Part → List ℕ
+bytes-of s part = take (part .len) (drop (part .from) s)
+
+abbrev ReadingsBack : (s : List ℕ) → Part → Option (List ℕ) → Type 0
+ReadingsBack s part none = part ≡ absent
+ReadingsBack s part (some readings) = (part .present ≡ true) × (bytes-of s part ≡ readings)
+
+pub record Back (s : List ℕ) (sheet : Sheet) (modulus factors pattern : List ℕ) (readings : Option (List ℕ)) : Type 0 where
+  pub verdict : sheet .verdict ≡ Passed
+  pub modulus-is : sheet .modulus ≡ big-endian 4 modulus 0
+  pub factors-are : bytes-of s (sheet .factors) ≡ factors
+  pub pattern-is : bytes-of s (sheet .pattern) ≡ pattern
+  pub readings-are : ReadingsBack s (sheet .readings) readings
+
+-- ---- each value stands where its field is placed
+
+abbrev Stand : (s : List ℕ) (o : ℕ) → List Value → Type 0
+Stand s o [] = Unit {0}
+Stand s o (f ∷ fs) = (take (length (f .bytes)) (drop (o + header-bytes) s) ≡ f .bytes) × Stand s (o + header-bytes + length (f .bytes)) fs
+
+stand : (fs : List Value) (s pre : List ℕ) (o : ℕ) → s ≡ pre ++ joined fs → o ≡ length pre → Stand s o fs
+unfolding joined
+stand [] s pre o is start = tt
+stand (f ∷ fs) s pre o is start = (
+  rw (is, start) (value-stands pre f (joined fs)),
+  stand fs s (pre ++ field-bytes f) (o + header-bytes + length (f .bytes)) (is ∙ sym (append-assoc pre (field-bytes f) (joined fs))) (omega (arith, length-append pre (field-bytes f))),
+)
+
+-- ---- the fields are well-formed
+
+module _ (modulus factors pattern : List ℕ) (readings : Option (List ℕ)) (h : Lengths modulus factors pattern readings) where
+  abbrev come₁ : List Field
+  come₁ = placed (record { tag = 1; bytes = 1 ∷ [] }) 0 ∷ []
+
+  abbrev come₂ : List Field
+  come₂ = placed (record { tag = 2; bytes = modulus }) 4 ∷ come₁
+
+  abbrev come₃ : List Field
+  come₃ = placed (record { tag = 3; bytes = factors }) (7 + length modulus) ∷ come₂
+
+  abbrev come₄ : List Field
+  come₄ = placed (record { tag = 4; bytes = pattern }) (7 + length modulus + header-bytes + length factors) ∷ come₃
+
+  version-fits : Fits 1 [] (record { tag = 1; bytes = 1 ∷ [] })
+  unfolding tags part-of
+  version-fits = record { fits = refl; above = omega arith; complete = refl; short = omega arith; tells = λ e. refl }
+
+  modulus-fits : Fits 1 come₁ (record { tag = 2; bytes = modulus })
+  unfolding tags part-of
+  modulus-fits = record { fits = right-modulus 1 come₁ (h .four); above = omega arith; complete = refl; short = omega arith; tells = λ e. absurd (omega arith) }
+
+  factors-fit : Fits 1 come₂ (record { tag = 3; bytes = factors })
+  unfolding tags part-of
+  factors-fit = record { fits = right-factors 1 come₂ (h .fives) (h .few); above = omega arith; complete = refl; short = omega arith; tells = λ e. absurd (omega arith) }
+
+  pattern-fits : Fits 1 come₃ (record { tag = 4; bytes = pattern })
+  unfolding tags part-of
+  pattern-fits = record { fits = right-pattern 1 come₃ (h .fours) (h .small); above = omega arith; complete = refl; short = omega arith; tells = λ e. absurd (omega arith) }
+
+  readings-fit : (given : List ℕ) → length given ≡ length pattern → Fits 1 come₄ (record { tag = 5; bytes = given })
+  unfolding tags part-of
+  readings-fit given e = record { fits = right-readings 1 come₄ e; above = omega arith; complete = refl; short = omega arith; tells = λ d. absurd (omega arith) }
+
+  all-fit : (r : Option (List ℕ)) → ReadingsFit pattern r → WellFormed 1 [] 0 (version-1 modulus factors pattern r)
+  unfolding tags part-of
+  all-fit none e = (version-fits, (modulus-fits, (factors-fit, (pattern-fits, refl))))
+  all-fit (some given) e = (version-fits, (modulus-fits, (factors-fit, (pattern-fits, (readings-fit given e, refl)))))
+
+-- ---- the theorem
+
+module _ (modulus factors pattern : List ℕ) where
+  back : (s : List ℕ) (readings : Option (List ℕ)) → length modulus ≡ 4 → Stand s 0 (version-1 modulus factors pattern readings)
+      → Back s (told s (accepted (all-placed (version-1 modulus factors pattern readings) [] 0))) modulus factors pattern readings
+  unfolding all-placed part-of
+  back s none four h = record {
+    verdict = refl;
+    modulus-is = sym (in-part 4 (length modulus) s 7 (omega arith)) ∙ ap (λ (l : List ℕ). big-endian 4 l 0) (h .1 .0);
+    factors-are = h .1 .1 .0;
+    pattern-is = h .1 .1 .1 .0;
+    readings-are = refl;
+  }
+  back s (some given) four h = record {
+    verdict = refl;
+    modulus-is = sym (in-part 4 (length modulus) s 7 (omega arith)) ∙ ap (λ (l : List ℕ). big-endian 4 l 0) (h .1 .0);
+    factors-are = h .1 .1 .0;
+    pattern-is = h .1 .1 .1 .0;
+    readings-are = (refl, h .1 .1 .1 .1 .0);
+  }
+
+  pub written-reads-back : (readings : Option (List ℕ)) → Lengths modulus factors pattern readings
+      → let s = joined (version-1 modulus factors pattern readings) in Back s (sheet-of s) modulus factors pattern readings
+  written-reads-back readings h =
+      let fields = version-1 modulus factors pattern readings in
+      let s = joined fields in
+      rw (accepted-joined 1 refl fields (all-fit modulus factors pattern readings h readings (h .same))) (back s readings (h .four) (stand fields s [] 0 refl refl))

@@ -1,0 +1,9 @@
+pub mod Numbers
+pub mod Fields
+pub mod Tags
+pub mod Checks
+pub mod Walk
+pub mod Steps
+pub mod Sheets
+pub mod Entries
+pub mod Joined
