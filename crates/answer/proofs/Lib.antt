@@ -1,3 +1,4 @@
 pub mod FirstHigh
 pub mod Orders
+pub mod Passing
 pub mod OneAnswer

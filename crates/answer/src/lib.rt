@@ -9,7 +9,8 @@ ghost use Prim.Native.Nat.{_<_};
 ghost use Rattle.answer.specs.Order.{or, first, order};
 ghost use Rattle.answer.specs.Checks.{refuse-if, empty, large, mismatch, modulus, first-high, coefficient, room, divisor};
 ghost use Rattle.answer.specs.Factors.{factors};
-ghost use Rattle.answer.specs.Reply.{refusal-reply, reply};
+ghost use Rattle.answer.specs.Numbers.{row, refusal-row};
+ghost use Rattle.answer.specs.Reply.{tell, refusal-reply, reply};
 
 // The refusals of document 01 by name: those of the table, then those of a sheet.
 pub enum Case {
@@ -26,6 +27,21 @@ pub enum Case {
     Length,
     Missing,
     Version,
+}
+
+// What a number tells besides.
+pub enum Told {
+    Nothing,
+    Ring,
+    RingAndPlace,
+    RingAndPrime,
+    Place,
+}
+
+// A row of document 01's table of numbers.
+pub struct Row {
+    pub number: u32,
+    pub told: Told,
 }
 
 // A refusal, with the ring and the place that it tells; 0 where it tells none. A sheet's refusal has its offset for the place.
@@ -199,7 +215,34 @@ pub fn check_four_rings(a: &[u32], b: &[u32], c: &[u32], d: &[u32], m: u32, fact
     }
 }
 
-fn tell(number: u32, ring: usize, place: usize, prime: u32) -> Reply
+fn numbered(number: u32, told: Told) -> Row
+    ensures { λ r. ⌜ r ≡ row number told ⌝ }
+{
+    Row { number, told }
+}
+
+// Document 01's table of numbers.
+pub fn row_of(case: Case) -> Row
+    ensures { λ r. ⌜ r ≡ refusal-row case ⌝ }
+{
+    match case {
+        Case::Empty => numbered(1, Told::Nothing),
+        Case::Large => numbered(2, Told::Nothing),
+        Case::Mismatch => numbered(3, Told::Ring),
+        Case::Modulus => numbered(4, Told::Nothing),
+        Case::Factors => numbered(5, Told::Nothing),
+        Case::Coefficient => numbered(6, Told::RingAndPlace),
+        Case::Room => numbered(7, Told::Nothing),
+        Case::Divisor => numbered(8, Told::Nothing),
+        Case::Cut => numbered(20, Told::Place),
+        Case::Tag => numbered(21, Told::Place),
+        Case::Length => numbered(22, Told::Place),
+        Case::Missing => numbered(23, Told::Place),
+        Case::Version => numbered(24, Told::Place),
+    }
+}
+
+fn with_number(number: u32, ring: usize, place: usize, prime: u32) -> Reply
     ensures { λ r. ⌜ r ≡ record { number = number; prime = prime; ring = ring; place = place } ⌝ }
 {
     Reply {
@@ -210,25 +253,25 @@ fn tell(number: u32, ring: usize, place: usize, prime: u32) -> Reply
     }
 }
 
+// What the row tells, and 0 for what it does not.
+fn tell(row: Row, ring: usize, place: usize, prime: u32) -> Reply
+    ensures { λ r. ⌜ r ≡ tell row ring place prime ⌝ }
+{
+    let told = row.told;
+    match told {
+        Told::Nothing => with_number(row.number, 0, 0, 0),
+        Told::Ring => with_number(row.number, ring, 0, 0),
+        Told::RingAndPlace => with_number(row.number, ring, place, 0),
+        Told::RingAndPrime => with_number(row.number, ring, 0, prime),
+        Told::Place => with_number(row.number, 0, place, 0),
+    }
+}
+
 fn tell_refusal(r: Refusal) -> Reply
     ensures { λ said. ⌜ said ≡ refusal-reply r ⌝ }
 {
     let case = r.case;
-    match case {
-        Case::Empty => tell(1, 0, 0, 0),
-        Case::Large => tell(2, 0, 0, 0),
-        Case::Mismatch => tell(3, r.ring, 0, 0),
-        Case::Modulus => tell(4, 0, 0, 0),
-        Case::Factors => tell(5, 0, 0, 0),
-        Case::Coefficient => tell(6, r.ring, r.place, 0),
-        Case::Room => tell(7, 0, 0, 0),
-        Case::Divisor => tell(8, 0, 0, 0),
-        Case::Cut => tell(20, 0, r.place, 0),
-        Case::Tag => tell(21, 0, r.place, 0),
-        Case::Length => tell(22, 0, r.place, 0),
-        Case::Missing => tell(23, 0, r.place, 0),
-        Case::Version => tell(24, 0, r.place, 0),
-    }
+    tell(row_of(case), r.ring, r.place, 0)
 }
 
 // The answer in the paper's numbers.
@@ -236,8 +279,8 @@ pub fn reply_of(answer: Answer) -> Reply
     ensures { λ r. ⌜ r ≡ reply answer ⌝ }
 {
     match answer {
-        Answer::Done => tell(0, 0, 0, 0),
-        Answer::Singular { ring, prime } => tell(9, ring, 0, prime),
+        Answer::Done => with_number(0, 0, 0, 0),
+        Answer::Singular { ring, prime } => tell(numbered(9, Told::RingAndPrime), ring, 0, prime),
         Answer::Refused(refusal) => tell_refusal(refusal),
     }
 }

@@ -1,6 +1,6 @@
 -- The ghost: the only one of its kind; counts, not all zero modulo m, whose readings are all zero.
 -- m / p times what is zero modulo p is zero modulo m, and the leading coefficient m / p is not. Assumes nothing.
-use Prim.Native.Nat.{ℕ, zero, suc, _*_, _-_, _/_, _%_, _≤_, _<_, _∣_}
+use Prim.Native.Nat.{ℕ, zero, suc, _+_, _*_, _-_, _/_, _%_, _≤_, _<_, _∣_}
 use mathlib.Core.Path.{_≡_, sym, ap, _∙_}
 use mathlib.Core.Logic.{_≢_}
 use mathlib.Core.List.{List}
@@ -9,7 +9,8 @@ use native.Mathlib.Decide.{decLt}
 use native.Mathlib.Nat.{div-mul-cancel, div-add-mod, mul-mod-right, mod-eq-of-lt, mul-one, mul-le-mul-left}
 use lib.ListN.{length}
 use Rattle.sums.specs.Table.{at, table}
-use Rattle.sums.proofs.Tables.{at-table, at-past, table-eq, table-inj}
+use Rattle.sums.proofs.Tables.{at-table, at-past, length-table, table-eq, table-inj}
+use Rattle.ring.specs.Ring.{Ring}
 use Rattle.ring.specs.Mix.{mix}
 use Rattle.ring.specs.One.{zeros}
 use Rattle.ring.specs.Entrywise.{scale}
@@ -45,6 +46,13 @@ module _ {m p : ℕ} (two : 2 ≤ p) (some : 0 < m) (d : p ∣ m) where
 module _ (n m : ℕ) (f : List ℕ) {p : ℕ} {new : List ℕ} (two : 2 ≤ p) (some : 0 < m) (d : p ∣ m) (g : Ghost n m f p new) where
   place : g .polynomial .degree < n
   place = elim (decLt (g .polynomial .degree) n) [ yes l ↦ l | no l ↦ absurd (g .polynomial .is .last (at-past (g .w) (g .polynomial .degree) (omega (arith, g .polynomial .ring .long)))) ]
+
+  -- A ring modulo m.
+  pub ghost-ring : Ring n m new
+  ghost-ring = record { long = ap length (g .times) ∙ length-table n _; low = λ i h. omega (arith, ap (λ (l : List ℕ). at l i) (g .times) ∙ at-table n _ i h, whole two some d, part-some two some d, entry i h) }
+    where
+      entry : (i : ℕ) → i < n → m / p * at (g .w) i + m / p ≤ m / p * p
+      entry i h = omega (arith, mul-le-mul-left (m / p) (g .polynomial .ring .low i h))
 
   -- Not all zero.
   pub ghost-some : (i : ℕ) × (i < n) × (at new i % m ≢ 0)

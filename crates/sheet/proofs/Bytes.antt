@@ -1,13 +1,14 @@
 -- Numbers of two and of four bytes, written out, as the code computes them; and a number in a part of the bytes. Assumes nothing.
-use Prim.Native.Nat.{ℕ, zero, suc, _+_, _*_, _≤_}
+use Prim.Native.Nat.{ℕ, zero, suc, _+_, _*_, _≤_, _<_}
 use mathlib.Core.Path.{_≡_, refl}
 use mathlib.Core.List.{List}
 use native.Mathlib.Omega.{arith}
-use native.Mathlib.Nat.{add-zero, zero-add}
-use lib.ListN.{take, drop}
+use native.Mathlib.Nat.{add-zero, zero-add, mul-le-mul-right}
+use lib.ListN.{length, take, drop}
 use lib.Seq.{getD-take, getD-drop}
 use Rattle.sums.specs.Table.{at}
 use Rattle.sheet.specs.Numbers.{big-endian}
+use Rattle.sheet.specs.Entries.{Holds}
 
 pub two-bytes : (s : List ℕ) (o : ℕ) → big-endian 2 s o ≡ at s o * 256 + at s (o + 1)
 unfolding big-endian
@@ -24,3 +25,7 @@ in-part zero n s o h = refl
 in-part (suc width) n s o h =
     let e : at (take n (drop o s)) (0 + width) ≡ at s (o + width) = rw (zero-add width, getD-take n (drop o s) width 0, getD-drop o s width 0) in
     rw (e, in-part width n s o (omega arith))
+
+-- Number i lies in a part that holds more than i.
+pub holds-entry : {part : List ℕ} {step count : ℕ} (i : ℕ) → Holds part step count → i < count → i * step + step ≤ length part
+holds-entry {step = step} i h k = omega (arith, h .whole, mul-le-mul-right step k)

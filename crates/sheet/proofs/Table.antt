@@ -99,6 +99,17 @@ readings-long s (f ∷ come) h p = elim (ℕ-discrete (f .tag) 5) [
   ]
 ]
 
+absent-empty : (come : List Field) (tag : ℕ) → part-of come tag .present ≡ false → part-of come tag .len ≡ 0
+unfolding part-of
+absent-empty [] tag p = refl
+absent-empty (f ∷ come) tag p = elim (ℕ-discrete (f .tag) tag) [
+  | yes e ↦ absurd (never (rw (eq-eqb (f .tag) tag e) at p))
+  | no e ↦ rw (ne-eqb (f .tag) tag e) (absent-empty come tag (rw (ne-eqb (f .tag) tag e) at p))
+]
+  where
+    never : true ≡ false → ⊥
+    never d = let z : _≡_ {A = ℕ} 0 1 = cc in omega arith
+
 -- A sheet that is accepted has right lengths; one that is refused has none.
 pub record Sized (sheet : Sheet) : Type 0 where
   pub fives : sheet .factors .len % 5 ≡ 0
@@ -106,6 +117,7 @@ pub record Sized (sheet : Sheet) : Type 0 where
   pub fours : sheet .pattern .len % 4 ≡ 0
   pub small : sheet .pattern .len ≤ 4096
   pub same : sheet .readings .present ≡ true → sheet .readings .len ≡ sheet .pattern .len
+  pub none : sheet .readings .present ≡ false → sheet .readings .len ≡ 0
 
 told-sized : (s : List ℕ) (r : Reading) → reading s ≡ r → Sized (told s r)
 told-sized s (accepted come) e =
@@ -115,8 +127,8 @@ told-sized s (accepted come) e =
     let fourth = part-fits s come 4 (whole .sound) (has .pattern) in
     let factors = factors-five (version-of s (third .come)) (third .come) (part-of come 3 .len) (third .fits) in
     let pattern = pattern-four (version-of s (fourth .come)) (fourth .come) (part-of come 4 .len) (fourth .fits) in
-    record { fives = factors .0; few = factors .1; fours = pattern .0; small = pattern .1; same = readings-long s come (whole .sound) }
-told-sized s (refused r) e = record { fives = refl; few = omega arith; fours = refl; small = omega arith; same = λ p. refl }
+    record { fives = factors .0; few = factors .1; fours = pattern .0; small = pattern .1; same = readings-long s come (whole .sound); none = absent-empty come 5 }
+told-sized s (refused r) e = record { fives = refl; few = omega arith; fours = refl; small = omega arith; same = λ p. refl; none = λ p. refl }
 
 pub sheet-sized : (s : List ℕ) {sheet : Sheet} → sheet ≡ sheet-of s → Sized sheet
 sheet-sized s e = subst (λ (x : Sheet). Sized x) (sym e) (told-sized s (reading s) refl)

@@ -13,7 +13,7 @@ use Rattle.sheet.specs.Fields.{Field, header-bytes, absent, part-of}
 use Rattle.sheet.specs.Tags.{tags}
 use Rattle.sheet.specs.Walk.{accepted}
 use Rattle.sheet.specs.Joined.{Value, field-bytes, joined, placed, all-placed, version-1}
-use Rattle.sheet.specs.Sheets.{told, sheet-of}
+use Rattle.sheet.specs.Sheets.{told, sheet-of, bytes-of}
 use Rattle.sheet.specs.declared.Part.{Part}
 use Rattle.sheet.specs.declared.Sheet.{Sheet}
 use Rattle.sheet.proofs.Bytes.{in-part}
@@ -34,9 +34,6 @@ pub record Lengths (modulus factors pattern : List ℕ) (readings : Option (List
   pub same : ReadingsFit pattern readings
 
 -- What reads back.
-abbrev bytes-of : (s : List ℕ) → Part → List ℕ
-bytes-of s part = take (part .len) (drop (part .from) s)
-
 abbrev ReadingsBack : (s : List ℕ) → Part → Option (List ℕ) → Type 0
 ReadingsBack s part none = part ≡ absent
 ReadingsBack s part (some readings) = (part .present ≡ true) × (bytes-of s part ≡ readings)

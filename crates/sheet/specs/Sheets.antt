@@ -26,7 +26,11 @@ told s (refused r) = record { verdict = Refused r; modulus = 0; factors = absent
 abbrev pub sheet-of : List ℕ → Sheet
 sheet-of s = told s (reading s)
 
+-- The bytes of a part.
+abbrev pub bytes-of : (s : List ℕ) → Part → List ℕ
+bytes-of s part = take (part .len) (drop (part .from) s)
+
 -- The slice r is that part of the slice s: these of its bytes, where they lie in memory.
 pub record IsPart (s : RefT (List ℕ)) (part : Part) (r : RefT (List ℕ)) : Type 0 where
-  pub bytes : now r ≡ take (part .len) (drop (part .from) (now s))
+  pub bytes : now r ≡ bytes-of (now s) part
   pub place : r .ptr ≡ (s .ptr .0, part .from + s .ptr .1)

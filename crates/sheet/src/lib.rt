@@ -8,7 +8,7 @@ ghost use mathlib.Core.Bool.{true, false, cond, not, _&&_, _||_};
 ghost use Prim.Native.Nat.{ℕ, _+_, _*_, _≤_, _<_, _%_};
 ghost use lib.Dec.{eqb, ltb, leb};
 ghost use lib.ListN.{length};
-ghost use Rattle.sums.specs.Table.{at as entry};
+ghost use Rattle.sums.specs.Table.{at as entry, table};
 ghost use Rattle.answer.specs.Checks.{refuse-if};
 ghost use Rattle.answer.specs.Order.{first};
 ghost use Rattle.sheet.specs.Numbers.{big-endian};
@@ -17,7 +17,7 @@ ghost use Rattle.sheet.specs.Tags.{tags, known-version, fit, lacks};
 ghost use Rattle.sheet.specs.Checks.{is-unknown, is-wrong, above-tags, value-order};
 ghost use Rattle.sheet.specs.Steps.{header, kept, WhenKept, Reached, step, Ended};
 ghost use Rattle.sheet.specs.Sheets.{sheet-of, IsPart};
-ghost use Rattle.sheet.specs.Entries.{entry-of, prime-of, exponent-of};
+ghost use Rattle.sheet.specs.Entries.{number-of, exponent-of, Holds};
 
 // The bytes of a field before its value.
 const HEADER: usize = 3;
@@ -458,25 +458,28 @@ pub fn readings_of(bytes: &[u8], sheet: Sheet) -> &[u8]
     cut(bytes, part)
 }
 
-// Entry i of a part that holds a ring.
-pub fn entry_of(part: &[u8], i: usize) -> u32
-    requires { ⌜ i * 4 + 4 ≤ length (now part) ⌝ }
-    ensures { λ r. ⌜ r ≡ entry-of (now (part .entry)) i ⌝ }
+// The numbers of a part, each `step` bytes after the one before, as many as out takes.
+pub fn numbers_of(part: &[u8], step: usize, out: &mut [u32])
+    requires { ⌜ Holds (now part) step (length (now out)) ⌝ }
+    ensures { λ _. ⌜ now (out .exit) ≡ table (length (now (out .entry))) (number-of step (now (part .entry))) ⌝ }
 {
-    number_at(part, i * 4)
+    let mut i = 0;
+    while i < out.len() {
+        let at = i * step;
+        out[i] = number_at(part, at);
+        i += 1;
+    }
 }
 
-// Prime i and exponent i of a part that holds factors.
-pub fn prime_of(part: &[u8], i: usize) -> u32
-    requires { ⌜ i * 5 + 5 ≤ length (now part) ⌝ }
-    ensures { λ r. ⌜ r ≡ prime-of (now (part .entry)) i ⌝ }
+// The exponents of a part that holds factors, as many as out takes.
+pub fn exponents_of(part: &[u8], out: &mut [u8])
+    requires { ⌜ Holds (now part) 5 (length (now out)) ⌝ }
+    ensures { λ _. ⌜ now (out .exit) ≡ table (length (now (out .entry))) (exponent-of (now (part .entry))) ⌝ }
 {
-    number_at(part, i * 5)
-}
-
-pub fn exponent_of(part: &[u8], i: usize) -> u8
-    requires { ⌜ i * 5 + 5 ≤ length (now part) ⌝ }
-    ensures { λ r. ⌜ r ≡ exponent-of (now (part .entry)) i ⌝ }
-{
-    part[i * 5 + 4]
+    let mut i = 0;
+    while i < out.len() {
+        let at = i * 5;
+        out[i] = part[at + 4];
+        i += 1;
+    }
 }

@@ -8,14 +8,17 @@ use Rattle.answer.proofs.reply_of.Tie as tie
 enum-told : tie.Need-enum-told
 enum-told c = search needs
 
-tell-requires : tie.Need-tell-requires
-tell-requires c κs = search needs
+with-number-requires : tie.Need-with-number-requires
+with-number-requires c κs = search needs
 
 enum-known-answer : tie.Need-enum-known-answer
 enum-known-answer c = search needs
 
-tell-requires-2 : tie.Need-tell-requires-2
-tell-requires-2 c κs = search needs
+numbered-requires : tie.Need-numbered-requires
+numbered-requires c κs = search needs
+
+tell-requires : tie.Need-tell-requires
+tell-requires c κs = search needs
 
 enum-known-answer-2 : tie.Need-enum-known-answer-2
 enum-known-answer-2 c = search needs
@@ -24,10 +27,11 @@ tell-refusal-requires : tie.Need-tell-refusal-requires
 tell-refusal-requires c κs = search needs
 
 returns : tie.Need-returns
-returns c = c .tell .ensures ∙ ap reply (sym (c .before .enum-told .given .1))
+returns c = c .with-number .ensures ∙ ap reply (sym (c .before .enum-told .given .1))
 
 returns-2 : tie.Need-returns-2
-returns-2 c = c .tell2 .ensures ∙ ap reply (sym (c .before .before .answer .given .1))
+returns-2 c =
+    c .tell .ensures ∙ (rw (c .before .numbered .ensures)) ∙ ap reply (sym (c .before .before .before .answer .given .1))
 
 returns-3 : tie.Need-returns-3
 returns-3 c = c .tell-refusal .ensures ∙ ap reply (sym (c .before .before .answer2 .given .1))
@@ -37,9 +41,10 @@ reply-of-spec =
     tie.close
     (tie.spec
     enum-told
-    tell-requires
+    with-number-requires
     enum-known-answer
-    tell-requires-2
+    numbered-requires
+    tell-requires
     enum-known-answer-2
     tell-refusal-requires
     returns

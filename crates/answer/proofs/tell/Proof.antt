@@ -1,0 +1,82 @@
+-- `answer::tell` meets its contract: each arm is a line of the definition. Assumes nothing.
+use mathlib.Core.Path.{_≡_, _∙_, ap, sym}
+use Rattle.answer.specs.Reply.{tell-values}
+use Rattle.answer.specs.declared.Told.{Told}
+use borrow.Author.Needs.{needs}
+use Rattle.answer.proofs.tell.Statement.{statement}
+use Rattle.answer.proofs.tell.Tie as tie
+
+enum-told : tie.Need-enum-told
+enum-told c = search needs
+
+with-number-requires : tie.Need-with-number-requires
+with-number-requires c κs = search needs
+
+enum-told-2 : tie.Need-enum-told-2
+enum-told-2 c = search needs
+
+with-number-requires-2 : tie.Need-with-number-requires-2
+with-number-requires-2 c κs = search needs
+
+enum-told-3 : tie.Need-enum-told-3
+enum-told-3 c = search needs
+
+with-number-requires-3 : tie.Need-with-number-requires-3
+with-number-requires-3 c κs = search needs
+
+enum-told-4 : tie.Need-enum-told-4
+enum-told-4 c = search needs
+
+with-number-requires-4 : tie.Need-with-number-requires-4
+with-number-requires-4 c κs = search needs
+
+enum-told-5 : tie.Need-enum-told-5
+enum-told-5 c = search needs
+
+with-number-requires-5 : tie.Need-with-number-requires-5
+with-number-requires-5 c κs = search needs
+
+returns : tie.Need-returns
+returns c =
+    let given = c .before .before .before .args in
+    c .with-number .ensures ∙ ap (λ (t : Told). tell-values t (given .row .number) (given .ring) (given .place) (given .prime)) (sym (c .before .enum-told .given .1))
+
+returns-2 : tie.Need-returns-2
+returns-2 c =
+    let given = c .before .before .before .args in
+    c .with-number2 .ensures ∙ ap (λ (t : Told). tell-values t (given .row .number) (given .ring) (given .place) (given .prime)) (sym (c .before .enum-told2 .given .1))
+
+returns-3 : tie.Need-returns-3
+returns-3 c =
+    let given = c .before .before .before .args in
+    c .with-number3 .ensures ∙ ap (λ (t : Told). tell-values t (given .row .number) (given .ring) (given .place) (given .prime)) (sym (c .before .enum-told3 .given .1))
+
+returns-4 : tie.Need-returns-4
+returns-4 c =
+    let given = c .before .before .before .args in
+    c .with-number4 .ensures ∙ ap (λ (t : Told). tell-values t (given .row .number) (given .ring) (given .place) (given .prime)) (sym (c .before .enum-told4 .given .1))
+
+returns-5 : tie.Need-returns-5
+returns-5 c =
+    let given = c .before .before .before .args in
+    c .with-number5 .ensures ∙ ap (λ (t : Told). tell-values t (given .row .number) (given .ring) (given .place) (given .prime)) (sym (c .before .enum-told5 .given .1))
+
+pub tell-spec : {M : Type 1} → statement M
+tell-spec =
+    tie.close
+    (tie.spec
+    enum-told
+    with-number-requires
+    enum-told-2
+    with-number-requires-2
+    enum-told-3
+    with-number-requires-3
+    enum-told-4
+    with-number-requires-4
+    enum-told-5
+    with-number-requires-5
+    returns
+    returns-2
+    returns-3
+    returns-4
+    returns-5)

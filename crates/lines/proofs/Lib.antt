@@ -1,0 +1,4 @@
+pub mod Decimals
+pub mod Spellings
+pub mod Putting
+pub mod Rows

@@ -1,0 +1,69 @@
+// Lines of words and numbers, written into a lent buffer. Each function writes from an offset on and answers the offset after
+// the last byte that it wrote.
+ghost use mathlib.Core.Path.{_≡_};
+ghost use mathlib.Core.List.{[], _∷_};
+ghost use Rattle.lines.specs.Decimal.{glyph};
+ghost use Rattle.lines.specs.Items.{number, numbers};
+ghost use Rattle.lines.specs.Items.{word as a-word};
+ghost use Rattle.lines.specs.Lines.{after};
+ghost use Rattle.lines.specs.Puts.{Room, Puts, Digit, PutsByte};
+
+pub fn put_word(text: &mut [u8], at: usize, word: &[u8]) -> usize
+    requires { ⌜ Room (a-word (now word) ∷ []) at (now text) ⌝ }
+    ensures { λ r. ⌜ Puts (a-word (now (word .entry)) ∷ []) at (now (text .entry)) (now (text .exit)) r ⌝ }
+{
+    let mut i = 0;
+    while i < word.len() {
+        text[at + i] = word[i];
+        i += 1;
+    }
+    at + i
+}
+
+fn put_digit(text: &mut [u8], at: usize, digit: u64) -> usize
+    requires { ⌜ Digit digit at (now text) ⌝ }
+    ensures { λ r. ⌜ PutsByte (glyph digit) at (now (text .entry)) (now (text .exit)) r ⌝ }
+{
+    text[at] = b'0' + digit as u8;
+    at + 1
+}
+
+fn put_digits(text: &mut [u8], at: usize, x: u64) -> usize
+    requires { ⌜ Room (number x ∷ []) at (now text) ⌝ }
+    ensures { λ r. ⌜ Puts (number x ∷ []) at (now (text .entry)) (now (text .exit)) r ⌝ }
+{
+    if x < 10 {
+        return put_digit(text, at, x);
+    }
+    let end = put_digits(text, at, x / 10);
+    put_digit(text, end, x % 10)
+}
+
+// A blank, and the number.
+pub fn put_number(text: &mut [u8], at: usize, x: u64) -> usize
+    requires { ⌜ Room (after (number x ∷ [])) at (now text) ⌝ }
+    ensures { λ r. ⌜ Puts (after (number x ∷ [])) at (now (text .entry)) (now (text .exit)) r ⌝ }
+{
+    let start = put_word(text, at, b" ");
+    put_digits(text, start, x)
+}
+
+fn wide(x: u32) -> u64
+    ensures { λ r. ⌜ r ≡ x ⌝ }
+{
+    x as u64
+}
+
+// The entries of a ring, each after a blank.
+pub fn put_ring(text: &mut [u8], at: usize, ring: &[u32]) -> usize
+    requires { ⌜ Room (after (numbers (now ring))) at (now text) ⌝ }
+    ensures { λ r. ⌜ Puts (after (numbers (now (ring .entry)))) at (now (text .entry)) (now (text .exit)) r ⌝ }
+{
+    let mut end = at;
+    let mut i = 0;
+    while i < ring.len() {
+        end = put_number(text, end, wide(ring[i]));
+        i += 1;
+    }
+    end
+}

@@ -1,0 +1,71 @@
+-- `sheet::exponents_of` meets its contract: after i turns the first i exponents stand in the output and the rest is as it came. Assumes nothing.
+use Prim.Native.Nat.{_-_, _≤_}
+use mathlib.Core.Path.{_≡_, refl}
+use mathlib.Core.List.{_++_}
+use lib.ListN.{length, drop, length-set}
+use Rattle.sums.specs.Table.{table}
+use Rattle.sums.proofs.Fill.{fill-none, fill-step, fill-all}
+use Rattle.sheet.specs.Entries.{exponent-of}
+use Rattle.sheet.proofs.Bytes.{holds-entry}
+use borrow.Author.Needs.{needs}
+use native.Mathlib.Omega.{arith}
+use Rattle.sheet.proofs.exponents_of.Statement.{statement}
+use Rattle.sheet.proofs.exponents_of.Tie as tie
+
+abbrev Inv-loop : tie.InvT-loop
+Inv-loop part out₀ i₀ out i = (i ≤ length out₀) × (out ≡ table i (exponent-of part) ++ drop i out₀) × (length out ≡ length out₀)
+
+abbrev μ-loop : tie.MeasureT-loop
+μ-loop part out₀ i₀ out i = length out₀ - i
+
+loop-holds : tie.Need-loop-holds Inv-loop μ-loop
+loop-holds c = (omega arith, fill-none _ _, refl)
+
+mul-at : tie.Need-mul-at Inv-loop μ-loop
+mul-at c = let inside = holds-entry (c .before .loop .i) (c .before .before .pre) (omega arith) in search needs
+
+add-out : tie.Need-add-out Inv-loop μ-loop
+add-out c = let inside = holds-entry (c .before .loop .i) (c .before .before .pre) (omega arith) in search needs
+
+shared-slice-read-out : tie.Need-shared-slice-read-out Inv-loop μ-loop
+shared-slice-read-out c = let inside = holds-entry (c .before .before .loop .i) (c .before .before .before .pre) (omega arith) in search needs
+
+slice-write-out : tie.Need-slice-write-out Inv-loop μ-loop
+slice-write-out c = search needs
+
+add-i : tie.Need-add-i Inv-loop μ-loop
+add-i c = search needs
+
+loop-less : tie.Need-loop-less Inv-loop μ-loop
+loop-less c = search needs
+
+loop-again : tie.Need-loop-again Inv-loop μ-loop
+loop-again c =
+    let given = c .before .before .before .args in
+    (omega arith, cc (fill-step (exponent-of (given .part .now)) (given .out .now) (c .before .before .loop .i) (omega arith)), simp length-set (omega arith))
+
+same-length : tie.Need-same-length Inv-loop μ-loop
+same-length c = search needs
+
+returns : tie.Need-returns Inv-loop μ-loop
+returns c =
+    let given = c .before .before .args in
+    let e : c .before .loop .i ≡ length (given .out .now) = omega arith in
+    cc (fill-all (exponent-of (given .part .now)) (given .out .now) (c .before .loop .i) e)
+
+pub exponents-of-spec : {M : Type 1} → statement M
+exponents-of-spec =
+    tie.close
+    (tie.spec
+    Inv-loop
+    μ-loop
+    loop-holds
+    mul-at
+    add-out
+    shared-slice-read-out
+    slice-write-out
+    add-i
+    loop-less
+    loop-again
+    same-length
+    returns)
