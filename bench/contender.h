@@ -52,6 +52,9 @@ extern const struct contender parts_unmix;
 extern const struct contender dowelbrook_compares;
 extern const struct contender parts_compare;
 
+/* The counts again, from the bytes of a sheet to the text that the program prints. */
+extern const struct contender dowelbrook_reports;
+
 struct factors {
     size_t count;
     uint32_t primes[MOST_FACTORS];

@@ -56,6 +56,10 @@ static const struct shape parts_shapes[] = {
     {128, 510510},  {1024, 510510},  {0, 0},
 };
 
+static const struct shape report_shapes[] = {
+    {16, 1000000}, {128, 1000000}, {1024, 1000000}, {0, 0},
+};
+
 static const struct job jobs[] = {
     {"mix",
      {&dowelbrook_mixes, &plain_mixes,
@@ -95,6 +99,7 @@ static const struct job jobs[] = {
      has_whole_inverse},
     {"unmix", {&dowelbrook_unmixes, &parts_unmix}, parts_shapes, has_whole_inverse},
     {"same feeding", {&dowelbrook_compares, &parts_compare}, parts_shapes, has_whole_inverse},
+    {"report", {&parts_unmix, &dowelbrook_reports}, report_shapes, has_whole_inverse},
 };
 
 static void draw(uint32_t *ring, size_t n, uint32_t m) {

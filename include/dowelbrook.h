@@ -33,8 +33,16 @@ enum {
     DOWELBROOK_ROOM = 7,        /* the output's length is not n */
     DOWELBROOK_DIVISOR = 8,     /* reduce: divisor is below 2 or does not divide m;
                                    fold: the output's length is 0 or does not divide n */
-    DOWELBROOK_SINGULAR = 9     /* a pattern has no inverse modulo m; tells the lowest such ring, and the
+    DOWELBROOK_SINGULAR = 9,    /* a pattern has no inverse modulo m; tells the lowest such ring, and the
                                    smallest prime of m that is singular for it */
+
+    /* Of a sheet; each tells an offset: of the field's first byte, or the sheet's length for a tag
+       that is missing at its end. */
+    DOWELBROOK_CUT = 20,        /* fewer than three header bytes are left, or the value is cut */
+    DOWELBROOK_TAG = 21,        /* the tag is not 1 to 5, or not above the one before */
+    DOWELBROOK_LENGTH = 22,     /* the length is wrong */
+    DOWELBROOK_MISSING = 23,    /* a required tag has not come */
+    DOWELBROOK_VERSION = 24     /* the version is not 1 */
 };
 
 /*
@@ -139,6 +147,46 @@ dowelbrook_verdict dowelbrook_same_feeding(const uint32_t *f1, size_t f1_len,
                                            uint32_t m,
                                            const uint32_t *primes, size_t primes_len,
                                            const uint8_t *exponents, size_t exponents_len);
+
+/*
+ * What a sheet holds and where: offsets count from the sheet's first byte. A
+ * pattern and readings have four bytes an entry, factors four for the prime and
+ * one for the exponent, high byte first. On a refusal the modulus is 0 and all
+ * parts are empty; absent readings are an empty part with readings_present 0.
+ */
+typedef struct {
+    uint32_t number;         /* 0, or 20 to 24 */
+    uint32_t modulus;
+    size_t place;            /* the offset that a refusal tells, else 0 */
+    size_t factors_from, factors_len;
+    size_t pattern_from, pattern_len;
+    size_t readings_present; /* 1 or 0 */
+    size_t readings_from, readings_len;
+} dowelbrook_sheet;
+
+/*
+ * Reads a pattern sheet of any length, in place: its fields, in order, are
+ *   tag 1, length 1      version, 1
+ *   tag 2, length 4      modulus
+ *   tag 3, 5 each, to 35 factors
+ *   tag 4, 4 each, to 4,096  pattern
+ *   tag 5, as tag 4      readings, optional
+ * each with its tag in one byte and its length in two. It judges nothing else.
+ * Refuses at the first field that fails, in this order: CUT (header), TAG,
+ * MISSING, LENGTH, CUT (value), VERSION; at the end MISSING.
+ */
+dowelbrook_sheet dowelbrook_read_sheet(const uint8_t *sheet, size_t sheet_len);
+
+/* Room for every text of dowelbrook_report. */
+#define DOWELBROOK_TEXT 16512
+
+/*
+ * Writes the text that the program unmix prints for a sheet at the start of
+ * text, and returns its length; the rest of text is as it came. Where text_len
+ * is below DOWELBROOK_TEXT, nothing is written and 0 is returned.
+ */
+size_t dowelbrook_report(const uint8_t *sheet, size_t sheet_len,
+                         uint8_t *text, size_t text_len);
 
 #ifdef __cplusplus
 }

@@ -23,6 +23,10 @@ pub fn fault_sets(call: &Call) -> Vec<Vec<Number>> {
 
 pub fn case(call: &Call, faults: &[Number], random: &mut Random) -> Case {
     let n = length(call, faults, random);
+    case_of_length(n, call, faults, random)
+}
+
+pub fn case_of_length(n: usize, call: &Call, faults: &[Number], random: &mut Random) -> Case {
     let m = modulus(faults, random);
     let rings = (0..call.rings).map(|_| ring(n, m, random)).collect();
     let mut case = Case { rings, m, ..Case::default() };

@@ -34,19 +34,28 @@ pub fn run(random: &mut Random) -> Result<usize, String> {
 /// A pattern with an inverse, counts through it, twins through it and its inverse, and ghosts made of
 /// it.
 fn one_pattern(n: usize, m: u32, random: &mut Random) -> Result<usize, String> {
-    let (f, g, asked) = unit(n, m, random)?;
+    let (f, g, asked) = unit(any(n, m, random), m, random)?;
     let counts = ring(n, m, random);
     let readings = unmix::of(f.clone(), product(&f, &counts, m), m);
     compare::demand(&unmix::CALL, &readings, &Answer::done(counts), random)?;
     twins::agree(&f, &g, m, random)?;
-    let ghosts = ghosts(&f, m, random)?;
-    Ok(asked + 3 + ghosts)
+    for (f, p, ghost) in singular_patterns(&f, m, random) {
+        let told = Answer { verdict: singular(1, p).into(), out: ghost };
+        compare::demand(&invert::CALL, &invert::of(f.clone(), m), &told, random)?;
+        let case = unmix::of(f, ring(n, m, random), m);
+        compare::demand(&unmix::CALL, &case, &Answer::refused(singular(1, p), &case), random)?;
+    }
+    Ok(asked + 7)
 }
 
-/// A pattern with its inverse, and how many were asked for: one that is singular is drawn again modulo
-/// the prime told, which is singular as the ghost shows.
-fn unit(n: usize, m: u32, random: &mut Random) -> Result<(Vec<u32>, Vec<u32>, usize), String> {
-    let mut f = any(n, m, random);
+/// A pattern with its inverse, and how many were asked for: f, unless it is singular. Then it is drawn
+/// again modulo the prime told, which is singular as the ghost shows.
+pub fn unit(
+    mut f: Vec<u32>,
+    m: u32,
+    random: &mut Random,
+) -> Result<(Vec<u32>, Vec<u32>, usize), String> {
+    let n = f.len();
     for asked in 1..1_000 {
         let case = invert::of(f, m);
         let Answer { verdict, out } = compare::observe(&invert::CALL, &case, random)?;
@@ -81,10 +90,14 @@ fn told(verdict: Verdict, out: &[u32], m: u32) -> Option<u32> {
     (listed && leading == m / p && out.iter().all(multiple)).then_some(p)
 }
 
-/// A pattern that has an inverse changes no ghost when it is a factor, and x^d - 1 and
-/// 1 + x^d + x^2d + .. are each other's ghosts. One prime of m is made singular so, and maybe some that
-/// are larger.
-fn ghosts(unit: &[u32], m: u32, random: &mut Random) -> Result<usize, String> {
+/// Two patterns, each with its smallest singular prime and its ghost. A pattern that has an inverse
+/// changes no ghost when it is a factor, and x^d - 1 and 1 + x^d + x^2d + .. are each other's ghosts. One
+/// prime of m is made singular so, and maybe some that are larger.
+pub fn singular_patterns(
+    unit: &[u32],
+    m: u32,
+    random: &mut Random,
+) -> [(Vec<u32>, u32, Vec<u32>); 2] {
     let n = unit.len();
     let mut divisors = divisors(n as u32, 1);
     divisors.retain(|&d| (d as usize) < n);
@@ -93,7 +106,7 @@ fn ghosts(unit: &[u32], m: u32, random: &mut Random) -> Result<usize, String> {
     let primes = List::of(m).primes;
     let smallest = random.below(primes.len());
     let p = primes[smallest];
-    for side in [0, 1] {
+    [0, 1].map(|side| {
         let mut f = unit.to_vec();
         for &q in &primes[smallest..] {
             if q == p || random.below(2) == 0 {
@@ -101,11 +114,6 @@ fn ghosts(unit: &[u32], m: u32, random: &mut Random) -> Result<usize, String> {
                 f = replaced(&f, q, &product(&unit, &pair(q)[side], q), m);
             }
         }
-        let out = pair(p)[1 - side].iter().map(|c| c * (m / p)).collect();
-        let ghost = Answer { verdict: singular(1, p).into(), out };
-        compare::demand(&invert::CALL, &invert::of(f.clone(), m), &ghost, random)?;
-        let case = unmix::of(f, ring(n, m, random), m);
-        compare::demand(&unmix::CALL, &case, &Answer::refused(singular(1, p), &case), random)?;
-    }
-    Ok(4)
+        (f, p, pair(p)[1 - side].iter().map(|c| c * (m / p)).collect())
+    })
 }

@@ -39,6 +39,14 @@ impl<T: Word> Lent<T> {
         Lent { words, from, to }
     }
 
+    /// An input, half the time without canaries: then valgrind sees a read past either end.
+    pub fn input(content: &[T], random: &mut Random) -> Self {
+        if random.below(2) == 0 {
+            return Lent::new(content, random);
+        }
+        Lent { words: content.to_vec(), from: 0, to: content.len() }
+    }
+
     pub fn content(&self) -> &[T] {
         &self.words[self.from..self.to]
     }

@@ -1,21 +1,25 @@
-//! Compares the C door and the inner functions with a second implementation, written from document 01
-//! alone: answer, told values and the whole content of every lent buffer. comparison [SEED]
+//! Compares the C door, the inner functions and the program with a second implementation, written from
+//! document 01 alone: answer, told values and the whole content of every lent buffer.
 
 mod calls;
 mod case;
 mod circulant;
 mod compare;
+mod counts;
 mod door;
 mod draw;
 mod factors;
 mod figures;
 mod large;
 mod lent;
+mod parts;
 mod patterns;
 mod primes;
 mod probe;
+mod program;
 mod random;
 mod refusals;
+mod sheets;
 mod tally;
 mod twins;
 
@@ -24,23 +28,26 @@ use random::Random;
 use std::process::ExitCode;
 use tally::Tally;
 
+const USAGE: &str = "usage: comparison [--sheets COUNT | --program COUNT] [SEED]";
 const SEED: u64 = 20_260;
 const CASES_EACH: usize = 100_000;
 const LEAST_CASES: usize = 100_000;
 
+/// How many of each sort agree.
+type Agreed = Vec<(usize, &'static str)>;
+
 fn main() -> ExitCode {
-    let seed = match std::env::args().nth(1).map(|word| word.parse()) {
-        None => SEED,
-        Some(Ok(seed)) => seed,
-        Some(Err(_)) => {
-            eprintln!("usage: comparison [SEED]");
-            return ExitCode::from(2);
-        }
+    let words: Vec<String> = std::env::args().skip(1).collect();
+    let words: Vec<&str> = words.iter().map(String::as_str).collect();
+    let Some((task, seed)) = asked(&words) else {
+        eprintln!("{USAGE}");
+        return ExitCode::from(2);
     };
-    match run(&mut Random::new(seed)) {
-        Ok((cases, inner)) => {
-            println!("comparison: {inner} inner answers agree (seed {seed})");
-            println!("comparison: {cases} cases agree (seed {seed})");
+    match task.run(&mut Random::new(seed)) {
+        Ok(agreed) => {
+            for (count, what) in agreed {
+                println!("comparison: {count} {what} agree (seed {seed})");
+            }
             ExitCode::SUCCESS
         }
         Err(failure) => {
@@ -50,11 +57,49 @@ fn main() -> ExitCode {
     }
 }
 
-/// Runs everything, up to the first difference. Hands back how many cases of the calls agree, and how
-/// many answers of the inner functions.
-fn run(random: &mut Random) -> Result<(usize, usize), String> {
+enum Task {
+    Everything,
+    Sheets(usize),
+    Program(usize),
+}
+
+fn asked(words: &[&str]) -> Option<(Task, u64)> {
+    let (task, rest) = match words {
+        ["--sheets", count, rest @ ..] => (Task::Sheets(count.parse().ok()?), rest),
+        ["--program", count, rest @ ..] => (Task::Program(count.parse().ok()?), rest),
+        rest => (Task::Everything, rest),
+    };
+    match rest {
+        [] => Some((task, SEED)),
+        [seed] => Some((task, seed.parse().ok()?)),
+        _ => None,
+    }
+}
+
+impl Task {
+    fn run(&self, random: &mut Random) -> Result<Agreed, String> {
+        match self {
+            Task::Everything => run(random),
+            Task::Sheets(count) => Ok(vec![(sheets::run_long(*count, random)?, "sheets")]),
+            Task::Program(count) => {
+                Ok(vec![(program::run_short(*count, random)?, "runs of the program")])
+            }
+        }
+    }
+}
+
+/// Runs everything, up to the first difference.
+fn run(random: &mut Random) -> Result<Agreed, String> {
     let cases = run_calls(random)?;
-    Ok((cases, probe::run(random)?))
+    let inner = parts::run(&probe::ALL, random)?;
+    let sheets = parts::run(&sheets::ALL, random)?;
+    let runs = parts::run(&[program::PART], random)?;
+    Ok(vec![
+        (inner, "inner answers"),
+        (sheets, "sheets"),
+        (runs, "runs of the program"),
+        (cases, "cases"),
+    ])
 }
 
 type Run = fn(&mut Random) -> Result<usize, String>;

@@ -9,6 +9,9 @@ use Rattle.answer.proofs.OneAnswer.{one-reply}
 use Rattle.calls.specs.Contracts.{Mixes, Reduces, Folds}
 use Rattle.inverter.specs.Contracts.{Inverts, Unmixes}
 use Rattle.inverter.proofs.OneAnswer.{invert-one-answer, unmix-one-answer, same-one-answer}
+use Rattle.sheet.specs.Sheets.{sheet-of}
+use Rattle.capi.specs.SheetReply.{sheet-reply}
+use Rattle.capi.specs.declared.SheetReply.{SheetReply}
 use Rattle.capi.specs.Judgement.{verdict-judgement, Judges}
 use Rattle.capi.specs.declared.Judgement.{Judgement}
 use Rattle.calls.proofs.OneAnswer.{mix-one-answer, reduce-one-answer, fold-one-answer}
@@ -35,3 +38,6 @@ unmix-one-reply f z m ps es old = one-reply (Unmixes f z m ps es old) (λ s t. u
 
 pub same-one-judgement : (f₁ y₁ f₂ y₂ : List ℕ) (m : ℕ) (ps es : List ℕ) {r r′ : Judgement} → Judges f₁ y₁ f₂ y₂ m ps es r → Judges f₁ y₁ f₂ y₂ m ps es r′ → r ≡ r′
 same-one-judgement f₁ y₁ f₂ y₂ m ps es h k = h .is ∙ ap verdict-judgement (same-one-answer f₁ y₁ f₂ y₂ m ps es (h .fits) (k .fits)) ∙ sym (k .is)
+
+pub read-one-reply : (s : List ℕ) {r r′ : SheetReply} → r ≡ sheet-reply (sheet-of s) → r′ ≡ sheet-reply (sheet-of s) → r ≡ r′
+read-one-reply s e d = e ∙ sym d

@@ -1,14 +1,20 @@
 // The calls for C, Rust and Python: no call has a requires, each keeps the contract of the call behind it and replies in the paper's numbers.
 // include/dowelbrook.h declares them.
 use answer::Answer;
+use answer::Check;
 use answer::Reply;
 use answer::reply_of;
 use inverter::Verdict;
+use sheet::Sheet;
+use sheet::read;
 ghost use mathlib.Core.Path.{_≡_};
 ghost use Rattle.answer.specs.Reply.{Replied};
 ghost use Rattle.calls.specs.Contracts.{Mixes, Reduces, Folds};
 ghost use Rattle.inverter.specs.Contracts.{Inverts, Unmixes};
+ghost use Rattle.sheet.specs.Sheets.{sheet-of};
+ghost use Rattle.report.specs.Report.{Reports};
 ghost use Rattle.capi.specs.Judgement.{judgement, verdict-judgement, Judges};
+ghost use Rattle.capi.specs.SheetReply.{answered, flag, sheet-reply};
 
 #[no_mangle]
 pub extern "C" fn dowelbrook_mix(a: &[u32], b: &[u32], m: u32, out: &mut [u32]) -> Reply
@@ -107,4 +113,70 @@ pub extern "C" fn dowelbrook_same_feeding(
     ensures { λ r. ⌜ Judges (now (f1 .entry)) (now (y1 .entry)) (now (f2 .entry)) (now (y2 .entry)) m (now (primes .entry)) (now (exponents .entry)) r ⌝ }
 {
     judgement_of(inverter::same_feeding(f1, y1, f2, y2, m, primes, exponents))
+}
+
+// What a sheet holds and where, or the refusal in the paper's numbers. Offsets count from the sheet's first byte.
+#[repr(C)]
+pub struct SheetReply {
+    pub number: u32,
+    pub modulus: u32,
+    pub place: usize,
+    pub factors_from: usize,
+    pub factors_len: usize,
+    pub pattern_from: usize,
+    pub pattern_len: usize,
+    pub readings_present: usize,
+    pub readings_from: usize,
+    pub readings_len: usize,
+}
+
+fn answer_of(check: Check) -> Answer
+    ensures { λ r. ⌜ r ≡ answered check ⌝ }
+{
+    match check {
+        Check::Passed => Answer::Done,
+        Check::Refused(refusal) => Answer::Refused(refusal),
+    }
+}
+
+fn flag(test: bool) -> usize
+    ensures { λ r. ⌜ r ≡ flag test ⌝ }
+{
+    if test { 1 } else { 0 }
+}
+
+fn sheet_reply(sheet: Sheet) -> SheetReply
+    ensures { λ r. ⌜ r ≡ sheet-reply sheet ⌝ }
+{
+    let verdict = sheet.verdict;
+    let reply = reply_of(answer_of(verdict));
+    let factors = sheet.factors;
+    let pattern = sheet.pattern;
+    let readings = sheet.readings;
+    SheetReply {
+        number: reply.number,
+        modulus: sheet.modulus,
+        place: reply.place,
+        factors_from: factors.from,
+        factors_len: factors.len,
+        pattern_from: pattern.from,
+        pattern_len: pattern.len,
+        readings_present: flag(readings.present),
+        readings_from: readings.from,
+        readings_len: readings.len,
+    }
+}
+
+#[no_mangle]
+pub extern "C" fn dowelbrook_read_sheet(sheet: &[u8]) -> SheetReply
+    ensures { λ r. ⌜ r ≡ sheet-reply (sheet-of (now (sheet .entry))) ⌝ }
+{
+    sheet_reply(read(sheet))
+}
+
+#[no_mangle]
+pub extern "C" fn dowelbrook_report(sheet: &[u8], text: &mut [u8]) -> usize
+    ensures { λ r. ⌜ Reports (now (sheet .entry)) (now (text .entry)) (now (text .exit)) r ⌝ }
+{
+    report::report(sheet, text)
 }

@@ -9,3 +9,7 @@ least-modulus = 2
 
 abbrev pub most-modulus : ℕ
 most-modulus = 1000000
+
+-- The most decimal digits of a modulus, and so of an entry.
+abbrev pub most-digits : ℕ
+most-digits = 7

@@ -13,7 +13,7 @@ use Rattle.lines.specs.Decimal.{glyph}
 use Rattle.lines.specs.Items.{Item, word, number}
 use Rattle.lines.specs.Puts.{put, Puts, PutsByte, Room}
 use Rattle.lines.proofs.Decimals.{one-digit, next-digit}
-use Rattle.lines.proofs.Spellings.{spelled-alone, spells-append, spells-short, most-append, low-append}
+use Rattle.lines.proofs.Spellings.{one-spelling, spelled-alone, spells-append, spells-short, most-append, low-append}
 
 -- ---- bytes in place
 
@@ -53,6 +53,12 @@ puts-append {items} {more} {o} {mid} {old = old} {between = between} p q = recor
   stands = q .stands ∙ ap (λ (k : ℕ). put (q .spelling) k between) (p .ends) ∙ ap (put (q .spelling) (o + length (p .spelling))) (p .stands)
       ∙ put-put (p .spelling) o old (omega (arith, p .ends, p .inside)) (q .spelling);
 }
+
+-- What stands is the only thing that may, and ends where it must.
+pub one-put : {items : List Item} {o end end′ : ℕ} {old new new′ : List ℕ} → Puts items o old new end → Puts items o old new′ end′ → (end ≡ end′) × (new ≡ new′)
+one-put {items} {o} {old = old} p q =
+    let same = one-spelling items (p .spells) (q .spells) in
+    (p .ends ∙ ap (λ (t : List ℕ). o + length t) same ∙ sym (q .ends), p .stands ∙ ap (λ (t : List ℕ). put t o old) same ∙ sym (q .stands))
 
 -- ---- room
 

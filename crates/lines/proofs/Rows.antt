@@ -1,14 +1,15 @@
 -- A ring is printed entry by entry: the first i entries stand, then entry i after a blank. Assumes nothing.
-use Prim.Native.Nat.{ℕ, suc, _+_, _≤_, _<_}
+use Prim.Native.Nat.{ℕ, suc, _+_, _*_, _^_, _≤_, _<_}
 use mathlib.Core.Path.{_≡_, refl, sym, ap, _∙_, subst}
 use mathlib.Core.List.{List, [], _∷_, _++_, map-append, append-assoc}
+use native.Mathlib.Omega.{arith}
 use native.Mathlib.Numerals.{add-one}
 use lib.ListN.{length, take, drop}
 use lib.Seq.{take-suc, take-all, split-at}
 use Rattle.sums.specs.Table.{at}
 use Rattle.lines.specs.Items.{Item, number, numbers, text}
 use Rattle.lines.specs.Lines.{after}
-use Rattle.lines.specs.Puts.{Puts, Room}
+use Rattle.lines.specs.Puts.{Puts, Room, Low, most}
 use Rattle.lines.proofs.Putting.{puts-append, room-first, room-next}
 
 pub after-append : (items more : List Item) → after (items ++ more) ≡ after items ++ after more
@@ -36,3 +37,13 @@ module _ (ring : List ℕ) (o : ℕ) (old : List ℕ) (i : ℕ) (inside : i < le
 
 pub puts-ring : (ring : List ℕ) {o end i : ℕ} {old new : List ℕ} → length ring ≤ i → Puts (after (numbers (take i ring))) o old new end → Puts (after (numbers ring)) o old new end
 puts-ring ring {o} {end} {i} {old} {new} all p = subst (λ (l : List ℕ). Puts (after (numbers l)) o old new end) (take-all i ring all) p
+
+-- ---- how many bytes
+
+pub low-ring : (places : ℕ) (ring : List ℕ) → ((i : ℕ) → i < length ring → at ring i < 10 ^ places) → Low places (after (numbers ring))
+low-ring places [] h = tt
+low-ring places (x ∷ ring) h = (h 0 (omega arith), low-ring places ring (λ i k. h (suc i) (omega arith)))
+
+pub most-ring : (places : ℕ) (ring : List ℕ) → most places (after (numbers ring)) ≡ length ring * (1 + places)
+most-ring places [] = omega arith
+most-ring places (x ∷ ring) = omega (arith, most-ring places ring)

@@ -59,3 +59,8 @@ pub low-append : (places : ℕ) (items more : List Item) → Low places (items +
 low-append places [] more h = (tt, h)
 low-append places (word w ∷ items) more h = low-append places items more h
 low-append places (number x ∷ items) more h = let parts = low-append places items more (h .1) in ((h .0, parts .0), parts .1)
+
+pub low-join : (places : ℕ) (items more : List Item) → Low places items → Low places more → Low places (items ++ more)
+low-join places [] more h k = k
+low-join places (word w ∷ items) more h k = low-join places items more h k
+low-join places (number x ∷ items) more h k = (h .0, low-join places items more (h .1) k)

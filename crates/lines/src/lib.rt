@@ -5,7 +5,7 @@ ghost use mathlib.Core.List.{[], _∷_};
 ghost use Rattle.lines.specs.Decimal.{glyph};
 ghost use Rattle.lines.specs.Items.{number, numbers};
 ghost use Rattle.lines.specs.Items.{word as a-word};
-ghost use Rattle.lines.specs.Lines.{after};
+ghost use Rattle.lines.specs.Lines.{after, line};
 ghost use Rattle.lines.specs.Puts.{Room, Puts, Digit, PutsByte};
 
 pub fn put_word(text: &mut [u8], at: usize, word: &[u8]) -> usize
@@ -66,4 +66,24 @@ pub fn put_ring(text: &mut [u8], at: usize, ring: &[u32]) -> usize
         i += 1;
     }
     end
+}
+
+// The name and the number, each after a blank.
+pub fn put_named(text: &mut [u8], at: usize, name: &[u8], x: u64) -> usize
+    requires { ⌜ Room (after (a-word (now name) ∷ number x ∷ [])) at (now text) ⌝ }
+    ensures { λ r. ⌜ Puts (after (a-word (now (name .entry)) ∷ number x ∷ [])) at (now (text .entry)) (now (text .exit)) r ⌝ }
+{
+    let start = put_word(text, at, b" ");
+    let end = put_word(text, start, name);
+    put_number(text, end, x)
+}
+
+// A name, the entries of a ring, and the line's end.
+pub fn put_line(text: &mut [u8], at: usize, name: &[u8], ring: &[u32]) -> usize
+    requires { ⌜ Room (line (a-word (now name)) (numbers (now ring))) at (now text) ⌝ }
+    ensures { λ r. ⌜ Puts (line (a-word (now (name .entry))) (numbers (now (ring .entry)))) at (now (text .entry)) (now (text .exit)) r ⌝ }
+{
+    let start = put_word(text, at, name);
+    let end = put_ring(text, start, ring);
+    put_word(text, end, b"\n")
 }

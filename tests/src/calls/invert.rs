@@ -88,7 +88,7 @@ fn figures() -> Vec<Figure> {
 }
 
 /// m, pattern and inverse. One round too few would give [1, 6] for m 8.
-fn inverses() -> impl Iterator<Item = (u32, Vec<u32>, Vec<u32>)> {
+pub fn inverses() -> impl Iterator<Item = (u32, Vec<u32>, Vec<u32>)> {
     [
         (4, vec![1, 2, 0], vec![1, 2, 0]),
         (8, vec![1, 2], vec![5, 6]),
@@ -102,7 +102,7 @@ fn inverses() -> impl Iterator<Item = (u32, Vec<u32>, Vec<u32>)> {
 }
 
 /// m, pattern, prime and ghost.
-fn ghosts() -> impl Iterator<Item = (u32, Vec<u32>, u32, Vec<u32>)> {
+pub fn ghosts() -> impl Iterator<Item = (u32, Vec<u32>, u32, Vec<u32>)> {
     [
         (10, vec![1, 1], 2, vec![5, 5]),
         (5, vec![1, 1], 5, vec![4, 1]),

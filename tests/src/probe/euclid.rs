@@ -1,9 +1,9 @@
-use super::counts::Counts;
 use super::door::{self, Kind, Outcome};
-use super::Part;
 use crate::calls::mix::product;
 use crate::circulant::{solve, Solution};
+use crate::counts::Counts;
 use crate::draw::{any_words, divisors, other_length};
+use crate::parts::Part;
 use crate::patterns::{self, difference, ones, Pattern};
 use crate::primes::PRIMES;
 use crate::random::Random;

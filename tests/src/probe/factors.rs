@@ -1,6 +1,7 @@
-use super::counts::Counts;
-use super::{door, Part};
+use super::door;
+use crate::counts::Counts;
 use crate::factors::{spoilt, List};
+use crate::parts::Part;
 use crate::primes::HALVES;
 use crate::random::Random;
 

@@ -1,6 +1,6 @@
-use super::counts::Counts;
 use super::door::{self, Kind, Number};
-use super::Part;
+use crate::counts::Counts;
+use crate::parts::Part;
 use crate::primes::times;
 use crate::random::Random;
 

@@ -1,5 +1,6 @@
-use super::counts::Counts;
-use super::{door, Part};
+use super::door;
+use crate::counts::Counts;
+use crate::parts::Part;
 use crate::primes::{Primes, HALVES, PRIMES};
 use crate::random::Random;
 

@@ -1,6 +1,6 @@
 //! How often each kind of answer or input was met, and whether that is often enough.
 
-use super::Part;
+use crate::parts::Part;
 
 pub struct Counts<'a> {
     part: &'a Part,
@@ -47,6 +47,6 @@ impl<'a> Counts<'a> {
     }
 
     pub fn print_head() {
-        println!("\n{:<8}{:<40}{:>9}{:>9}", "inner", "kind", "met", "at least");
+        println!("\n{:<8}{:<40}{:>9}{:>9}", "part", "kind", "met", "at least");
     }
 }

@@ -1,0 +1,4 @@
+pub mod Rooms
+pub mod Displaying
+pub mod Reading
+pub mod OneAnswer

@@ -1,0 +1,5 @@
+pub mod Held
+pub mod Outcome
+pub mod Page
+pub mod Report
+pub mod Inner
