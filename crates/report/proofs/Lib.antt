@@ -2,3 +2,4 @@ pub mod Rooms
 pub mod Displaying
 pub mod Reading
 pub mod OneAnswer
+pub mod FirstBytes
