@@ -1,11 +1,12 @@
 -- Every P line of document 01 holds: each kind of line can be decided by computation, and the decision of the whole table is computed once.
 -- Assumes nothing.
-use Prim.Native.Nat.{ℕ, zero, suc, _*_, _/_, _<_}
-use mathlib.Core.Path.{_≡_, refl}
+use Prim.Native.Nat.{ℕ, zero, suc, _*_, _/_, _%_, _<_, _∣_}
+use mathlib.Core.Path.{_≡_, refl, subst}
 use mathlib.Core.List.{List, [], _∷_}
 use mathlib.Core.Option.{Option, some, none, IsSome}
 use native.Mathlib.Omega.{arith}
 use native.Mathlib.Decide.{ℕ-discrete, decLt}
+use native.Mathlib.Nat.{mod-eq-zero-of-dvd, dvd-of-mod-eq-zero}
 use lib.ListN.{length}
 use Rattle.sums.specs.Sum.{sum}
 use Rattle.sums.specs.Table.{at, table}
@@ -13,18 +14,20 @@ use Rattle.sums.proofs.Tables.{at-past}
 use Rattle.ring.specs.Mix.{mix}
 use Rattle.ring.specs.One.{one, zeros}
 use Rattle.ring.specs.Fold.{fold}
+use Rattle.modular.specs.Prime.{Prime}
+use Rattle.modular.specs.FactorList.{FactorList}
+use Rattle.modular.proofs.Factors.{divisor-listed}
 use Rattle.modular.proofs.Decide.{prime?, factor-list?}
 use Rattle.answer.specs.Checks.{first-high}
 use Rattle.answer.specs.Order.{first, order}
 use Rattle.answer.specs.declared.Check.{Check}
 use Rattle.answer.specs.declared.Check.the-variants.{Passed, Refused}
-use Rattle.answer.proofs.Orders.{legal, factors-passes}
 use Rattle.inverter.specs.Singular.{Singular}
 use Rattle.inverter.specs.GhostPolynomial.{Degree}
 use Rattle.answer.specs.Factors.{factors}
 use Rattle.inverter.specs.Contracts.{invert-order}
 use Rattle.inverter.proofs.OnePrime.{zero-singular}
-use Rattle.inverter.proofs.Legal.{invert-passes}
+use Rattle.inverter.proofs.Legal.{Granted, granted, invert-passes}
 use Rattle.figures.specs.Figures.{Line, inverse, ghost, mixed, folded, AllSingular, Says, All, lines}
 use Rattle.figures.proofs.Search.{same?, implies?, below?, ring?, clear?, clear-singular, unclear-singular, clear-least}
 
@@ -47,8 +50,11 @@ abbrev passed? : (c : Check) → Option (c ≡ Passed)
 passed? Passed = some refl
 passed? (Refused r) = none
 
+given : (f : List ℕ) (m : ℕ) (ps es : List ℕ) → first (order f [] m (factors m ps es) []) ≡ Passed → Granted f [] m ps es
+given f m ps es ok = granted f [] m ps es [] ok .0
+
 passes : (f : List ℕ) (m : ℕ) (ps es : List ℕ) → first (order f [] m (factors m ps es) []) ≡ Passed → (old : List ℕ) → length old ≡ length f → first (invert-order f m ps es (length old)) ≡ Passed
-passes f m ps es ok old e = let t = legal f [] m (factors m ps es) [] ok in invert-passes f m ps es (length old) (record { legal = t .0; factors = factors-passes m ps es (t .1) }) e
+passes f m ps es ok old e = invert-passes f m ps es (length old) (given f m ps es ok) e
 
 -- ---- the parts of a ghost line
 
@@ -64,20 +70,7 @@ degree? w d = do
   b ← if-yes (below? (length w) (λ i. d < i → at w i ≡ 0) (λ i. implies? (decLt d i) (ℕ-discrete (at w i) 0)))
   some (record { last = a; above = λ i h. elim (decLt i (length w)) [ yes l ↦ b i l h | no l ↦ at-past w i (omega arith) ] })
 
-abbrev Listed : ℕ → List ℕ → Type 0
-Listed p ps = (i : ℕ) × (i < length ps) × (at ps i ≡ p)
-
-unfoldable listed? : (p : ℕ) (ps : List ℕ) → Option (Listed p ps)
-unfolding ℕ-discrete
-listed? p [] = none
-listed? p (q ∷ ps) = elim (ℕ-discrete q p) [
-  | yes e ↦ some (0, omega arith, e)
-  | no e ↦ (do
-    h ← listed? p ps
-    some (suc (h .0), omega (arith, h .1), h .2))
-]
-
--- No prime of the list below p is singular.
+-- No prime of the list below p is singular,
 abbrev Fine : ℕ → List ℕ → List ℕ → ℕ → Type 0
 Fine n f ps p = (i : ℕ) → i < length ps → at ps i < p → ¬ Singular n (at ps i) f
 
@@ -93,6 +86,12 @@ fine? n f n1 lf (q ∷ ps) p = fine? n f n1 lf ps p >>= λ rest. elim (decLt q p
     put rest h zero l b = h b
     put rest h (suc i) l b = rest i (omega arith) b
 
+-- and so no prime of m, which stands in its list.
+none-smaller : (n : ℕ) (f : List ℕ) {m p : ℕ} {ps es : List ℕ} → FactorList m ps es → Fine n f ps p → (q : ℕ) → Prime q → q ∣ m → q < p → ¬ Singular n q f
+none-smaller n f {p = p} l fine q prime d =
+    let t = divisor-listed q l prime (mod-eq-zero-of-dvd q d) in
+    subst (λ (x : ℕ). x < p → ¬ Singular n x f) (t .2) (fine (t .0) (t .1))
+
 unfoldable also? : (f : List ℕ) → 0 < length f → (ps : List ℕ) → Option (AllSingular f ps)
 unfolding prime? clear?
 also? f n1 [] = some tt
@@ -105,7 +104,7 @@ also? f n1 (p ∷ ps) = do
 -- ---- the lines
 
 unfoldable says? : (l : Line) → Option (Says l)
-unfolding order first-high factors factor-list? prime? degree? listed? fine? also? ring? same? clear? decLt ℕ-discrete mix fold one zeros table sum
+unfolding order first-high factors factor-list? prime? degree? fine? also? ring? same? clear? decLt ℕ-discrete mix fold one zeros table sum
 says? (inverse m ps es f g) = do
   ok ← passed? (first (order f [] m (factors m ps es) []))
   r ← if-yes (ring? (length f) m g)
@@ -119,7 +118,7 @@ says? (ghost m ps es f p out also) =
       ok ← passed? (first (order f [] m (factors m ps es) []))
       n1 ← if-yes (decLt 0 n)
       prime ← if-yes (prime? p)
-      place ← listed? p ps
+      divides ← if-yes (ℕ-discrete (m % p) 0)
       fine ← fine? n f n1 refl ps p
       r ← if-yes (ring? n p w)
       deg ← degree? w d
@@ -134,7 +133,12 @@ says? (ghost m ps es f p out also) =
             passes f m ps es ok old h,
             record {
               one = refl;
-              smallest = record { place = place .0; inside = place .1; listed = place .2; singular = zero-singular n p prime n1 f refl w d r (deg .last) z; least = fine };
+              smallest = record {
+                prime = prime;
+                divides = dvd-of-mod-eq-zero p divides;
+                singular = zero-singular n p prime n1 f refl w d r (deg .last) z;
+                least = none-smaller n f (given f m ps es ok .factors) fine;
+              };
               ghost = record { w = w; polynomial = record { ring = r; degree = d; is = deg; monic = lead; zero = z; least = clear-least n p f d c }; times = times };
             },
           );

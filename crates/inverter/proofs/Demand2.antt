@@ -1,7 +1,7 @@
 -- Demand 2. A legal call that needs the inverse g is singular exactly when no g exists; f has an inverse modulo m exactly when no prime of m is singular
 -- (000, Theorem 2.2); and the ghost is counts, not all zero modulo m, whose readings are all zero. "Done" with the inverse itself is the contract's
 -- own words: `Inverse`, the product is one. Assumes nothing.
-use Prim.Native.Nat.{ℕ, _%_, _<_}
+use Prim.Native.Nat.{ℕ, _%_, _<_, _∣_}
 use mathlib.Core.Path.{_≡_, refl}
 use mathlib.Core.Logic.{_≢_, _↔_, _⊎_, inl, inr}
 use mathlib.Core.List.{List}
@@ -11,6 +11,7 @@ use Rattle.sums.specs.Table.{at}
 use Rattle.ring.specs.Mix.{mix}
 use Rattle.ring.specs.One.{zeros}
 use Rattle.ring.specs.Inverse.{Invertible}
+use Rattle.modular.specs.Prime.{Prime}
 use Rattle.modular.specs.FactorList.{FactorList}
 use Rattle.answer.specs.Order.{first}
 use Rattle.answer.specs.Reply.{reply}
@@ -24,19 +25,19 @@ use Rattle.inverter.specs.Contracts.{invert-order, unmix-order, same-ord
 use Rattle.inverter.specs.declared.Verdict.{Verdict}
 use Rattle.inverter.specs.declared.Verdict.the-variants as verdict
 use Rattle.inverter.proofs.Legal.{invert-granted, unmix-granted, same-granted}
-use Rattle.inverter.proofs.Patterns.{inverse-or-smallest, smallest-prime, singular-none, smallest-none}
+use Rattle.inverter.proofs.Patterns.{inverse-or-smallest, singular-none, smallest-none}
 use Rattle.inverter.proofs.Ghosts.{ghost-some, ghost-silent}
 use Rattle.inverter.proofs.OneAnswer.{named-none}
 
 -- ---- 000, Theorem 2.2
 
 pub theorem-2-2 : {m : ℕ} {ps es : List ℕ} → FactorList m ps es → (n : ℕ) → 0 < n → (f : List ℕ) → length f ≡ n
-    → Invertible n m f ↔ ((i : ℕ) → i < length ps → ¬ pattern.Singular n (at ps i) f)
-theorem-2-2 {m} {ps} l n some f lf = ((λ u i h s. singular-none l n some f lf i h s u), (λ h. pick h (inverse-or-smallest l n some f lf)))
+    → Invertible n m f ↔ ((q : ℕ) → Prime q → q ∣ m → ¬ pattern.Singular n q f)
+theorem-2-2 {m} l n some f lf = ((λ u q prime d s. singular-none n some f lf prime d s u), (λ h. pick h (inverse-or-smallest l n some f lf)))
   where
-    pick : ((i : ℕ) → i < length ps → ¬ pattern.Singular n (at ps i) f) → Invertible n m f ⊎ ((p : ℕ) × Smallest n f ps p) → Invertible n m f
+    pick : ((q : ℕ) → Prime q → q ∣ m → ¬ pattern.Singular n q f) → Invertible n m f ⊎ ((p : ℕ) × Smallest n m f p) → Invertible n m f
     pick h (inl u) = u
-    pick h (inr (p, s)) = absurd (h (s .place) (s .inside) (rw (s .listed) (s .singular)))
+    pick h (inr (p, s)) = absurd (h p (s .prime) (s .divides) (s .singular))
 
 -- ---- a legal call is singular (9) exactly when no inverse exists
 
@@ -45,7 +46,7 @@ pub invert-singular : (f : List ℕ) (m : ℕ) (ps es old : List ℕ) (a : Answe
 invert-singular f m ps es old Done new ok h = ((λ e. absurd (omega arith)), (λ n. absurd (n (record { inverse = new; is = h .meets .1 }))))
 invert-singular f m ps es old (Singular r p) new ok h =
     let g = invert-granted f m ps es (length old) ok .0 in
-    ((λ e. smallest-none (g .factors) (length f) (g .legal .some) f refl (h .meets .1 .smallest)), (λ n. refl))
+    ((λ e. smallest-none (length f) (g .legal .some) f refl (h .meets .1 .smallest)), (λ n. refl))
 invert-singular f m ps es old (Refused r) new ok h = absurd (let z : _≡_ {A = ℕ} 0 1 = cc (h .meets .0, ok) in omega arith)
 
 pub unmix-singular : (f y : List ℕ) (m : ℕ) (ps es old : List ℕ) (a : Answer) (new : List ℕ) → first (unmix-order f y m ps es (length old)) ≡ check.Passed
@@ -53,14 +54,14 @@ pub unmix-singular : (f y : List ℕ) (m : ℕ) (ps es old : List ℕ) (a : Answ
 unmix-singular f y m ps es old Done new ok h = ((λ e. absurd (omega arith)), (λ n. absurd (n (h .meets .1 .invertible))))
 unmix-singular f y m ps es old (Singular r p) new ok h =
     let g = unmix-granted f y m ps es (length old) ok .0 in
-    ((λ e. smallest-none (g .factors) (length f) (g .legal .some) f refl (h .meets .1 .smallest)), (λ n. refl))
+    ((λ e. smallest-none (length f) (g .legal .some) f refl (h .meets .1 .smallest)), (λ n. refl))
 unmix-singular f y m ps es old (Refused r) new ok h = absurd (let z : _≡_ {A = ℕ} 0 1 = cc (h .meets .0, ok) in omega arith)
 
 pub same-singular : (f₁ y₁ f₂ y₂ : List ℕ) (m : ℕ) (ps es : List ℕ) (v : Verdict) → first (same-order f₁ y₁ f₂ y₂ m ps es) ≡ check.Passed
     → SameFeeding f₁ y₁ f₂ y₂ m ps es v → (verdict-reply v .number ≡ 9) ↔ (¬ (Invertible (length f₁) m f₁ × Invertible (length f₁) m f₂))
 same-singular f₁ y₁ f₂ y₂ m ps es v ok h = go v (h .meets)
   where
-    go : (v : Verdict) → Judges (length f₁) m f₁ y₁ f₂ y₂ ps (same-order f₁ y₁ f₂ y₂ m ps es) v → (verdict-reply v .number ≡ 9) ↔ (¬ (Invertible (length f₁) m f₁ × Invertible (length f₁) m f₂))
+    go : (v : Verdict) → Judges (length f₁) m f₁ y₁ f₂ y₂ (same-order f₁ y₁ f₂ y₂ m ps es) v → (verdict-reply v .number ≡ 9) ↔ (¬ (Invertible (length f₁) m f₁ × Invertible (length f₁) m f₂))
     go verdict.Yes (o, c) = ((λ e. absurd (omega arith)), (λ n. absurd (n (c .unmixed₁ .invertible, c .unmixed₂ .invertible))))
     go verdict.No (o, c) = ((λ e. absurd (omega arith)), (λ n. absurd (n (c .unmixed₁ .invertible, c .unmixed₂ .invertible))))
     go (verdict.Singular r p) (o, s) = ((λ e. named-none f₁ y₁ f₂ y₂ m ps es (same-granted f₁ y₁ f₂ y₂ m ps es ok) s), (λ n. refl))
@@ -78,7 +79,7 @@ pub record Silent (n m : ℕ) (f c : List ℕ) : Type 0 where
 pub invert-ghost : (f : List ℕ) (m : ℕ) (ps es old : List ℕ) (ring p : ℕ) (new : List ℕ) → Inverts f m ps es old (Singular ring p) new → Silent (length f) m f new
 invert-ghost f m ps es old ring p new h =
     let g = invert-granted f m ps es (length old) (h .meets .0) .0 in
-    let prime = smallest-prime (g .factors) (length f) (g .legal .some) f refl (h .meets .1 .smallest) in
+    let s = h .meets .1 .smallest in
     let pos : 0 < m = omega (arith, g .legal .low) in
-    let t = ghost-some (length f) m f (prime .0 .two) pos (prime .1) (h .meets .1 .ghost) in
-    record { place = t .0; inside = t .1; some = t .2; silent = ghost-silent (length f) m f (prime .0 .two) pos (prime .1) (h .meets .1 .ghost) }
+    let t = ghost-some (length f) m f (s .prime .two) pos (s .divides) (h .meets .1 .ghost) in
+    record { place = t .0; inside = t .1; some = t .2; silent = ghost-silent (length f) m f (s .prime .two) pos (s .divides) (h .meets .1 .ghost) }

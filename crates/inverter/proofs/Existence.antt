@@ -35,10 +35,10 @@ invert-answers f m ps es old = go (first (invert-order f m ps es (length old))) 
         g : Granted f [] m ps es
         g = invert-granted f m ps es (length old) e .0
 
-        pick : Invertible (length f) m f ⊎ ((p : ℕ) × Smallest (length f) f ps p) → (a : Answer) × (new : List ℕ) × Inverts f m ps es old a new
+        pick : Invertible (length f) m f ⊎ ((p : ℕ) × Smallest (length f) m f p) → (a : Answer) × (new : List ℕ) × Inverts f m ps es old a new
         pick (inl u) = (answer.Done, u .inverse, record { meets = (e, u .is) })
         pick (inr (p, s)) =
-            let h = ghost-of (g .factors) (length f) (g .legal .some) f refl s in
+            let h = ghost-of (length f) (g .legal .some) f refl s in
             (answer.Singular 1 p, h .0, record { meets = (e, record { one = refl; smallest = s; ghost = h .1 }) })
 
 pub unmix-answers : (f y : List ℕ) (m : ℕ) (ps es old : List ℕ) → (a : Answer) × (new : List ℕ) × Unmixes f y m ps es old a new
@@ -51,7 +51,7 @@ unmix-answers f y m ps es old = go (first (unmix-order f y m ps es (length old))
         g : Granted f (y ∷ []) m ps es
         g = unmix-granted f y m ps es (length old) e .0
 
-        pick : Invertible (length f) m f ⊎ ((p : ℕ) × Smallest (length f) f ps p) → (a : Answer) × (new : List ℕ) × Unmixes f y m ps es old a new
+        pick : Invertible (length f) m f ⊎ ((p : ℕ) × Smallest (length f) m f p) → (a : Answer) × (new : List ℕ) × Unmixes f y m ps es old a new
         pick (inl u) = (answer.Done, mix (length f) m (u .inverse) y, record { meets = (e, unmixed-of (length f) m f (omega (arith, g .legal .low)) u (g .legal .rings .0)) })
         pick (inr (p, s)) = (answer.Singular 1 p, old, record { meets = (e, record { one = refl; smallest = s; untouched = refl }) })
 
@@ -82,7 +82,7 @@ same-answers f₁ y₁ f₂ y₂ m ps es = go (first (same-order f₁ y₁ f₂ 
         pos : 0 < m
         pos = omega (arith, g .legal .low)
 
-        pick : Invertible (length f₁) m f₁ ⊎ ((p : ℕ) × Smallest (length f₁) f₁ ps p) → Invertible (length f₁) m f₂ ⊎ ((p : ℕ) × Smallest (length f₁) f₂ ps p) → (v : Verdict) × SameFeeding f₁ y₁ f₂ y₂ m ps es v
+        pick : Invertible (length f₁) m f₁ ⊎ ((p : ℕ) × Smallest (length f₁) m f₁ p) → Invertible (length f₁) m f₂ ⊎ ((p : ℕ) × Smallest (length f₁) m f₂ p) → (v : Verdict) × SameFeeding f₁ y₁ f₂ y₂ m ps es v
         pick (inr (p, s)) b = (Singular 1 p, record { meets = (e, inl (record { one = refl; smallest = s })) })
         pick (inl u) (inr (p, s)) = (Singular 3 p, record { meets = (e, inr (record { three = refl; invertible = u; smallest = s })) })
         pick (inl u) (inl v) = judge e _ _ (unmixed-of (length f₁) m f₁ pos u (g .legal .rings .0)) (unmixed-of (length f₁) m f₂ pos v (g .legal .rings .1 .1 .0)) (same? (length f₁) _ _)

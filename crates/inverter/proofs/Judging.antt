@@ -44,18 +44,18 @@ module _ {f₁ y₁ f₂ y₂ ps es : List ℕ} {m : ℕ} (legal : SameLegal f�
         out-long = back d;
       }
 
-  module _ {old₁ c₁ : List ℕ} {r₁ : Inversion} (u₁ : Unmixing f₁ y₁ m ps old₁ c₁ r₁) where
-    pub first-dark : {p : ℕ} → r₁ ≡ Ghost p → Judged (length f₁) m f₁ y₁ f₂ y₂ ps (Singular 1 p)
-    first-dark e = record { means = inl (record { one = refl; smallest = subst (UnmixMeans f₁ y₁ m ps old₁ c₁) e (u₁ .means) .0 }) }
+  module _ {old₁ c₁ : List ℕ} {r₁ : Inversion} (u₁ : Unmixing f₁ y₁ m old₁ c₁ r₁) where
+    pub first-dark : {p : ℕ} → r₁ ≡ Ghost p → Judged (length f₁) m f₁ y₁ f₂ y₂ (Singular 1 p)
+    first-dark e = record { means = inl (record { one = refl; smallest = subst (UnmixMeans f₁ y₁ m old₁ c₁) e (u₁ .means) .0 }) }
 
     module _ (e₁ : r₁ ≡ Inverted) where
       unmixed₁ : Unmixed (length f₁) m f₁ y₁ c₁
-      unmixed₁ = subst (UnmixMeans f₁ y₁ m ps old₁ c₁) e₁ (u₁ .means)
+      unmixed₁ = subst (UnmixMeans f₁ y₁ m old₁ c₁) e₁ (u₁ .means)
 
-      module _ {old₂ c₂ : List ℕ} {r₂ : Inversion} (u₂ : Unmixing f₂ y₂ m ps old₂ c₂ r₂) where
-        pub second-dark : {p : ℕ} → r₂ ≡ Ghost p → Judged (length f₁) m f₁ y₁ f₂ y₂ ps (Singular 3 p)
+      module _ {old₂ c₂ : List ℕ} {r₂ : Inversion} (u₂ : Unmixing f₂ y₂ m old₂ c₂ r₂) where
+        pub second-dark : {p : ℕ} → r₂ ≡ Ghost p → Judged (length f₁) m f₁ y₁ f₂ y₂ (Singular 3 p)
         second-dark {p} e = record {
-          means = inr (record { three = refl; invertible = unmixed₁ .invertible; smallest = subst (λ (n : ℕ). Smallest n f₂ ps p) (legal .pattern₂) (subst (UnmixMeans f₂ y₂ m ps old₂ c₂) e (u₂ .means) .0) });
+          means = inr (record { three = refl; invertible = unmixed₁ .invertible; smallest = subst (λ (n : ℕ). Smallest n m f₂ p) (legal .pattern₂) (subst (UnmixMeans f₂ y₂ m old₂ c₂) e (u₂ .means) .0) });
         }
 
         module _ (e₂ : r₂ ≡ Inverted) {b : Bool} (tells : TellsSame c₁ c₂ b) where
@@ -64,17 +64,17 @@ module _ {f₁ y₁ f₂ y₂ ps es : List ℕ} {m : ℕ} (legal : SameLegal f�
             counts₁ = c₁;
             counts₂ = c₂;
             unmixed₁ = unmixed₁;
-            unmixed₂ = subst (λ (n : ℕ). Unmixed n m f₂ y₂ c₂) (legal .pattern₂) (subst (UnmixMeans f₂ y₂ m ps old₂ c₂) e₂ (u₂ .means));
+            unmixed₂ = subst (λ (n : ℕ). Unmixed n m f₂ y₂ c₂) (legal .pattern₂) (subst (UnmixMeans f₂ y₂ m old₂ c₂) e₂ (u₂ .means));
             holds = h;
           }
 
           long : length c₁ ≡ length f₁
           long = unmixed₁ .counts .ring .long
 
-          pub judged-yes : b ≡ true → Judged (length f₁) m f₁ y₁ f₂ y₂ ps Yes
+          pub judged-yes : b ≡ true → Judged (length f₁) m f₁ y₁ f₂ y₂ Yes
           judged-yes t = record { means = compared {Holds = Same (length f₁)} (subst (λ (n : ℕ). Same n c₁ c₂) long (tells .yes-same t)) }
 
-          pub judged-no : b ≡ false → Judged (length f₁) m f₁ y₁ f₂ y₂ ps No
+          pub judged-no : b ≡ false → Judged (length f₁) m f₁ y₁ f₂ y₂ No
           judged-no t = record { means = compared {Holds = λ c₁ c₂. ¬ Same (length f₁) c₁ c₂} (subst (λ (n : ℕ). ¬ Same n c₁ c₂) long (tells .no-same t)) }
 
 -- ---- the call
@@ -92,7 +92,7 @@ module _ {f₁ y₁ f₂ y₂ ps es : List ℕ} {m : ℕ} (e : first (same-order
         readings₂ = legal .rings .1 .1 .0;
       }
 
-  pub judged-feeding : (v : Verdict) → Judged (length f₁) m f₁ y₁ f₂ y₂ ps v → SameFeeding f₁ y₁ f₂ y₂ m ps es v
+  pub judged-feeding : (v : Verdict) → Judged (length f₁) m f₁ y₁ f₂ y₂ v → SameFeeding f₁ y₁ f₂ y₂ m ps es v
   judged-feeding Yes j = record { meets = (e, j .means) }
   judged-feeding No j = record { meets = (e, j .means) }
   judged-feeding (Singular r p) j = record { meets = (e, j .means) }

@@ -21,7 +21,7 @@ use Rattle.inverter.specs.Contracts.{invert-order, same-order, Inverts, 
 use Rattle.inverter.specs.declared.Verdict.{Verdict}
 use Rattle.inverter.specs.declared.Verdict.the-variants.{Yes, No, Singular, Refused}
 use Rattle.inverter.proofs.Legal.{Granted, invert-granted, unmix-granted, same-granted}
-use Rattle.inverter.proofs.Patterns.{one-smallest, smallest-prime, smallest-none}
+use Rattle.inverter.proofs.Patterns.{one-smallest, smallest-none}
 use Rattle.inverter.proofs.Ghosts.{one-ghost}
 use Rattle.inverter.proofs.Unmixing.{one-unmixed}
 
@@ -31,11 +31,10 @@ pub invert-one-answer : (f : List ℕ) (m : ℕ) (ps es old : List ℕ) {r r′ 
 invert-one-answer f m ps es old h k =
     one-answer _ _ _ old
     (λ e x y i j. inverse-unique (length f) m f i j)
-    (λ e x y r p i s. let g = given e in smallest-none (g .factors) (length f) (g .legal .some) f refl (s .smallest) (record { inverse = x; is = i }))
-    (λ e x y r p r′ p′ s t. let g = given e in let q = one-smallest (s .smallest) (t .smallest) in (
+    (λ e x y r p i s. smallest-none (length f) (given e .legal .some) f refl (s .smallest) (record { inverse = x; is = i }))
+    (λ e x y r p r′ p′ s t. let q = one-smallest (s .smallest) (t .smallest) in (
       cc (s .one, t .one, q),
-      one-ghost (length f) m f (g .legal .some) refl (smallest-prime (g .factors) (length f) (g .legal .some) f refl (t .smallest) .0 .two)
-          (subst (λ (z : ℕ). Ghost (length f) m f z x) q (s .ghost)) (t .ghost),
+      one-ghost (length f) m f (given e .legal .some) refl (t .smallest .prime .two) (subst (λ (z : ℕ). Ghost (length f) m f z x) q (s .ghost)) (t .ghost),
     ))
     _ _ _ _ (h .meets) (k .meets)
   where
@@ -48,7 +47,7 @@ pub unmix-one-answer : (f y : List ℕ) (m : ℕ) (ps es old : List ℕ) {r r′
 unmix-one-answer f y m ps es old h k =
     one-answer _ _ _ old
     (λ e c c′ i j. one-unmixed (length f) m f i j)
-    (λ e c c′ r p i s. let g = unmix-granted f y m ps es (length old) e .0 in smallest-none (g .factors) (length f) (g .legal .some) f refl (s .smallest) (i .invertible))
+    (λ e c c′ r p i s. smallest-none (length f) (unmix-granted f y m ps es (length old) e .0 .legal .some) f refl (s .smallest) (i .invertible))
     (λ e c c′ r p r′ p′ s t. (let q = one-smallest (s .smallest) (t .smallest) in cc (s .one, t .one, q), s .untouched ∙ sym (t .untouched)))
     _ _ _ _ (h .meets) (k .meets)
 
@@ -67,29 +66,29 @@ module _ (f₁ y₁ f₂ y₂ : List ℕ) (m : ℕ) (ps es : List ℕ) where
   n = length f₁
 
   module _ (g : Granted f₁ (y₁ ∷ f₂ ∷ y₂ ∷ []) m ps es) where
-    first-none : {p : ℕ} → Smallest n f₁ ps p → ¬ Invertible n m f₁
-    first-none s = smallest-none (g .factors) n (g .legal .some) f₁ refl s
+    first-none : {p : ℕ} → Smallest n m f₁ p → ¬ Invertible n m f₁
+    first-none s = smallest-none n (g .legal .some) f₁ refl s
 
-    third-none : {p : ℕ} → Smallest n f₂ ps p → ¬ Invertible n m f₂
-    third-none s = smallest-none (g .factors) n (g .legal .some) f₂ (g .legal .rings .1 .0 .long) s
+    third-none : {p : ℕ} → Smallest n m f₂ p → ¬ Invertible n m f₂
+    third-none s = smallest-none n (g .legal .some) f₂ (g .legal .rings .1 .0 .long) s
 
     -- A singular pattern is named only where one has no inverse,
-    pub named-none : {r p : ℕ} → RingOne n f₁ ps r p ⊎ RingThree n m f₁ f₂ ps r p → ¬ (Invertible n m f₁ × Invertible n m f₂)
+    pub named-none : {r p : ℕ} → RingOne n m f₁ r p ⊎ RingThree n m f₁ f₂ r p → ¬ (Invertible n m f₁ × Invertible n m f₂)
     named-none (inl s) u = first-none (s .smallest) (u .0)
     named-none (inr s) u = third-none (s .smallest) (u .1)
 
     -- and in one way.
-    one-named : {r p r′ p′ : ℕ} → RingOne n f₁ ps r p ⊎ RingThree n m f₁ f₂ ps r p → RingOne n f₁ ps r′ p′ ⊎ RingThree n m f₁ f₂ ps r′ p′ → Singular r p ≡ Singular r′ p′
+    one-named : {r p r′ p′ : ℕ} → RingOne n m f₁ r p ⊎ RingThree n m f₁ f₂ r p → RingOne n m f₁ r′ p′ ⊎ RingThree n m f₁ f₂ r′ p′ → Singular r p ≡ Singular r′ p′
     one-named (inl s) (inl t) = let q = one-smallest (s .smallest) (t .smallest) in cc (s .one, t .one, q)
     one-named (inr s) (inr t) = let q = one-smallest (s .smallest) (t .smallest) in cc (s .three, t .three, q)
     one-named (inl s) (inr t) = absurd (first-none (s .smallest) (t .invertible))
     one-named (inr s) (inl t) = absurd (first-none (t .smallest) (s .invertible))
 
-    compared-named : {Holds : List ℕ → List ℕ → Type 0} {r p : ℕ} → Compared n m f₁ y₁ f₂ y₂ Holds → RingOne n f₁ ps r p ⊎ RingThree n m f₁ f₂ ps r p → ⊥
+    compared-named : {Holds : List ℕ → List ℕ → Type 0} {r p : ℕ} → Compared n m f₁ y₁ f₂ y₂ Holds → RingOne n m f₁ r p ⊎ RingThree n m f₁ f₂ r p → ⊥
     compared-named a s = named-none s (a .unmixed₁ .invertible, a .unmixed₂ .invertible)
 
   abbrev Fits : Verdict → Type 0
-  Fits v = Judges n m f₁ y₁ f₂ y₂ ps (same-order f₁ y₁ f₂ y₂ m ps es) v
+  Fits v = Judges n m f₁ y₁ f₂ y₂ (same-order f₁ y₁ f₂ y₂ m ps es) v
 
   given : first (same-order f₁ y₁ f₂ y₂ m ps es) ≡ check.Passed → Granted f₁ (y₁ ∷ f₂ ∷ y₂ ∷ []) m ps es
   given e = same-granted f₁ y₁ f₂ y₂ m ps es e

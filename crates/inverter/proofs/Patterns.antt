@@ -8,7 +8,7 @@ use mathlib.Core.List.{List}
 use native.Mathlib.Omega.{arith}
 use native.Mathlib.Decide.{decLt, ℕ-discrete}
 use native.Mathlib.Numerals.{add-one}
-use native.Mathlib.Nat.{mul-comm}
+use native.Mathlib.Nat.{mul-comm, mod-eq-zero-of-dvd}
 use lib.ListN.{length}
 use Rattle.sums.specs.Table.{at}
 use Rattle.ring.specs.One.{zeros}
@@ -17,7 +17,7 @@ use Rattle.ring.proofs.Lift.{invertible-power}
 use Rattle.ring.proofs.Reduce.{reduce-keeps-invertible}
 use Rattle.modular.specs.Prime.{Prime}
 use Rattle.modular.specs.FactorList.{FactorList}
-use Rattle.modular.proofs.Factors.{listed, rising-order}
+use Rattle.modular.proofs.Factors.{listed, rising-order, divisor-listed}
 use Rattle.inverter.specs.Singular.{Singular}
 use Rattle.inverter.specs.Smallest.{Smallest}
 use Rattle.inverter.specs.GhostPolynomial.{GhostPolynomial}
@@ -27,14 +27,28 @@ use Rattle.lift.proofs.FirstPowers.{first-powers, first-next, first-all, first-
 use Rattle.lift.proofs.Joining.{inverse-none, join-inverse}
 
 -- Two smallest singular primes are one.
-pub one-smallest : {n : ℕ} {f ps : List ℕ} {p q : ℕ} → Smallest n f ps p → Smallest n f ps q → p ≡ q
-one-smallest {n} {f} {ps} {p} {q} a b = elim (ℕ-discrete p q) [
-  | yes e ↦ e
-  | no e ↦ absurd (elim (decLt p q) [ yes l ↦ excluded a b l | no l ↦ excluded b a (omega arith) ])
-]
+pub one-smallest : {n m : ℕ} {f : List ℕ} {p q : ℕ} → Smallest n m f p → Smallest n m f q → p ≡ q
+one-smallest {n} {m} {f} a b = omega (arith, not-above a b, not-above b a)
   where
-    excluded : {p q : ℕ} → Smallest n f ps p → Smallest n f ps q → p < q → ⊥
-    excluded {p} {q} a b l = b .least (a .place) (a .inside) (omega (arith, a .listed)) (subst (λ (x : ℕ). Singular n x f) (sym (a .listed)) (a .singular))
+    not-above : {p q : ℕ} → Smallest n m f p → Smallest n m f q → q ≤ p
+    not-above {p} {q} a b = elim (decLt p q) [ yes h ↦ absurd (b .least p (a .prime) (a .divides) h (a .singular)) | no h ↦ omega arith ]
+
+-- ---- never both
+
+module _ {m : ℕ} (n : ℕ) (some : 0 < n) (f : List ℕ) (lf : length f ≡ n) where
+  pub singular-none : {q : ℕ} → Prime q → q ∣ m → Singular n q f → ¬ Invertible n m f
+  singular-none {q} prime d s u = singular-exactly n q prime some f lf .0 s (reduce-keeps-invertible n m q d (omega (arith, prime .two)) u)
+
+  pub smallest-none : {p : ℕ} → Smallest n m f p → ¬ Invertible n m f
+  smallest-none s = singular-none (s .prime) (s .divides) (s .singular)
+
+  -- Where there is a smallest singular prime, there is a ghost.
+  pub ghost-of : {p : ℕ} → Smallest n m f p → (out : List ℕ) × Ghost n m f p out
+  ghost-of {p} s = go (inverse-or-polynomial n p (s .prime) some f lf)
+    where
+      go : Invertible n p f ⊎ (Singular n p f × ((w : List ℕ) × GhostPolynomial n p f w)) → (out : List ℕ) × Ghost n m f p out
+      go (inl u) = absurd (singular-exactly n p (s .prime) some f lf .0 (s .singular) u)
+      go (inr (t, (w, g))) = (_, record { w = w; polynomial = g; times = refl })
 
 module _ {m : ℕ} {ps es : List ℕ} (l : FactorList m ps es) (n : ℕ) (some : 0 < n) (f : List ℕ) (lf : length f ≡ n) where
   -- ---- one prime more
@@ -50,56 +64,41 @@ module _ {m : ℕ} {ps es : List ℕ} (l : FactorList m ps es) (n : ℕ) (some :
       subst (λ (x : ℕ). Invertible n x f) (mul-comm (p ^ e) (first-powers ps es i) ∙ sym (first-next l i h))
       (record { inverse = _; is = join-inverse n (p ^ e) (first-powers ps es i) (z .0) (first-some l i) (z .1) f (power .is) (u .is) })
 
-  -- An inverse modulo the product so far, and none modulo the next prime.
-  pub smallest-next : (i : ℕ) → i < length ps → Invertible n (first-powers ps es i) f → Singular n (at ps i) f → Smallest n f ps (at ps i)
-  smallest-next i h u s = record { place = i; inside = h; listed = refl; singular = s; least = least }
+  -- A prime of m below the next one stands in the list before it, so it divides the product so far.
+  earlier-divides : (i q : ℕ) → Prime q → q ∣ m → q < at ps i → q ∣ first-powers ps es i
+  earlier-divides i q prime d less = go (divisor-listed q l prime (mod-eq-zero-of-dvd q d))
     where
-      earlier : (j : ℕ) → j < length ps → at ps j < at ps i → j < i
-      earlier j b less = elim (decLt j i) [
-        | yes d ↦ d
-        | no d ↦ elim (ℕ-discrete i j) [ yes e ↦ omega (arith, ap (at ps) e) | no e ↦ omega (arith, rising-order 0 ps es (l .rising) i j (omega arith) b) ]
-      ]
+      go : (j : ℕ) × (j < length ps) × (at ps j ≡ q) → q ∣ first-powers ps es i
+      go (j, b, is) = subst (λ (x : ℕ). x ∣ first-powers ps es i) is (first-divides l i j before b)
+        where
+          before : j < i
+          before = elim (decLt j i) [
+            | yes e ↦ e
+            | no e ↦ elim (ℕ-discrete i j) [ yes s ↦ omega (arith, is, ap (at ps) s) | no s ↦ omega (arith, is, rising-order 0 ps es (l .rising) i j (omega arith) b) ]
+          ]
 
-      least : (j : ℕ) → j < length ps → at ps j < at ps i → ¬ Singular n (at ps j) f
-      least j b less t =
-          let prime = listed l j b .prime in
-          singular-exactly n (at ps j) prime some f lf .0 t
-          (reduce-keeps-invertible n (first-powers ps es i) (at ps j) (first-divides l i j (earlier j b less) b) (omega (arith, prime .two)) u)
+  -- An inverse modulo the product so far, and none modulo the next prime.
+  pub smallest-next : (i : ℕ) → i < length ps → Invertible n (first-powers ps es i) f → Singular n (at ps i) f → Smallest n m f (at ps i)
+  smallest-next i h u s = record {
+    prime = listed l i h .prime;
+    divides = listed l i h .divides;
+    singular = s;
+    least = λ q prime d less t. singular-none n some f lf prime (earlier-divides i q prime d less) t u;
+  }
 
   -- ---- all of them
 
-  along : (i : ℕ) → i ≤ length ps → Invertible n (first-powers ps es i) f ⊎ ((p : ℕ) × Smallest n f ps p)
+  along : (i : ℕ) → i ≤ length ps → Invertible n (first-powers ps es i) f ⊎ ((p : ℕ) × Smallest n m f p)
   along zero h = inl (record { inverse = zeros n; is = inverse-none n f })
   along (suc i) h = go (along i (omega arith))
     where
-      go : Invertible n (first-powers ps es i) f ⊎ ((p : ℕ) × Smallest n f ps p) → Invertible n (first-powers ps es (suc i)) f ⊎ ((p : ℕ) × Smallest n f ps p)
+      go : Invertible n (first-powers ps es i) f ⊎ ((p : ℕ) × Smallest n m f p) → Invertible n (first-powers ps es (suc i)) f ⊎ ((p : ℕ) × Smallest n m f p)
       go (inr s) = inr s
       go (inl u) = next (inverse-or-polynomial n (at ps i) (listed l i h .prime) some f lf)
         where
-          next : Invertible n (at ps i) f ⊎ (Singular n (at ps i) f × ((w : List ℕ) × GhostPolynomial n (at ps i) f w)) → Invertible n (first-powers ps es (suc i)) f ⊎ ((p : ℕ) × Smallest n f ps p)
+          next : Invertible n (at ps i) f ⊎ (Singular n (at ps i) f × ((w : List ℕ) × GhostPolynomial n (at ps i) f w)) → Invertible n (first-powers ps es (suc i)) f ⊎ ((p : ℕ) × Smallest n m f p)
           next (inl v) = inl (rw (add-one i) at (invertible-next i h u v))
           next (inr s) = inr (at ps i, smallest-next i h u (s .0))
 
-  pub inverse-or-smallest : Invertible n m f ⊎ ((p : ℕ) × Smallest n f ps p)
+  pub inverse-or-smallest : Invertible n m f ⊎ ((p : ℕ) × Smallest n m f p)
   inverse-or-smallest = rw (first-all l) at (along (length ps) (omega arith))
-
-  -- The prime told is a prime of m.
-  pub smallest-prime : {p : ℕ} → Smallest n f ps p → Prime p × (p ∣ m)
-  smallest-prime {p} s = let t = listed l (s .place) (s .inside) in subst (λ (x : ℕ). Prime x × (x ∣ m)) (s .listed) (t .prime, t .divides)
-
-  -- Never both.
-  pub singular-none : (i : ℕ) → i < length ps → Singular n (at ps i) f → ¬ Invertible n m f
-  singular-none i h s u =
-      let t = listed l i h in
-      singular-exactly n (at ps i) (t .prime) some f lf .0 s (reduce-keeps-invertible n m (at ps i) (t .divides) (omega (arith, t .prime .two)) u)
-
-  pub smallest-none : {p : ℕ} → Smallest n f ps p → ¬ Invertible n m f
-  smallest-none s = singular-none (s .place) (s .inside) (subst (λ (x : ℕ). Singular n x f) (sym (s .listed)) (s .singular))
-
-  -- Where there is a smallest singular prime, there is a ghost.
-  pub ghost-of : {p : ℕ} → Smallest n f ps p → (out : List ℕ) × Ghost n m f p out
-  ghost-of {p} s = go (inverse-or-polynomial n p (smallest-prime s .0) some f lf)
-    where
-      go : Invertible n p f ⊎ (Singular n p f × ((w : List ℕ) × GhostPolynomial n p f w)) → (out : List ℕ) × Ghost n m f p out
-      go (inl u) = absurd (singular-exactly n p (smallest-prime s .0) some f lf .0 (s .singular) u)
-      go (inr (t, (w, g))) = (_, record { w = w; polynomial = g; times = refl })

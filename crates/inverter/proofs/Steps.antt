@@ -119,7 +119,7 @@ module _ {f ps es room g acc : List ℕ} (pre : inner.Solvable f (powers ps es) 
   pub walk-start : {acc′ : List ℕ} → acc′ ≡ zeros (length acc) → Inverse (length f) 1 f acc′
   walk-start {acc′} e = subst (Inverse (length f) 1 f) (ap zeros (sym (pre .acc-long)) ∙ sym e) (inverse-none (length f) f)
 
-  pub walk-end : {g′ acc′ : List ℕ} {big : ℕ} (i : ℕ) → i ≡ length ps → big ≡ first-powers ps es i → Inverse (length f) big f acc′ → Solved f (powers ps es) ps g′ acc′ inversion.Inverted
+  pub walk-end : {g′ acc′ : List ℕ} {big : ℕ} (i : ℕ) → i ≡ length ps → big ≡ first-powers ps es i → Inverse (length f) big f acc′ → Solved f (powers ps es) g′ acc′ inversion.Inverted
   walk-end {g′} {acc′} i e b a = record { means = subst (λ (x : ℕ). Inverse (length f) x f acc′) (b ∙ ap (first-powers ps es) e ∙ first-all factors) a }
 
   module _ (i : ℕ) (h : i < length ps) {big : ℕ} (b : big ≡ first-powers ps es i) where
@@ -151,7 +151,7 @@ module _ {f ps es room g acc : List ℕ} (pre : inner.Solvable f (powers ps es) 
         let t = subst (StepMeans f (at ps i) (at es i) big g′ acc′) e (s .means) in
         (t .0 ∙ next-is, subst (λ (x : ℕ). Inverse (length f) x f acc′) (sym (t .0)) (t .1))
 
-    pub walk-dark : {g′ acc′ acc″ : List ℕ} {r : Step} → Inverse (length f) big f acc′ → Stepped f (at ps i) (at es i) big g′ acc″ r → r ≡ step.Dark → Solved f (powers ps es) ps g′ acc″ (inversion.Ghost (at ps i))
+    pub walk-dark : {g′ acc′ acc″ : List ℕ} {r : Step} → Inverse (length f) big f acc′ → Stepped f (at ps i) (at es i) big g′ acc″ r → r ≡ step.Dark → Solved f (powers ps es) g′ acc″ (inversion.Ghost (at ps i))
     walk-dark {g′} {acc′} {acc″} {r} a s e =
         let t = subst (StepMeans f (at ps i) (at es i) big g′ acc″) e (s .means) in
         record { means = (smallest-next factors (length f) (pre .factored .some) f refl i h (record { inverse = acc′; is = subst (λ (x : ℕ). Inverse (length f) x f acc′) b a }) (t .0), t .1) }

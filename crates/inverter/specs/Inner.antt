@@ -89,12 +89,12 @@ pub record Solvable (f : List ℕ) (m : ℕ) (ps es room g acc : List ℕ) : Typ
   pub acc-long : length acc ≡ length f
 
 -- The inverse modulo m, or the smallest singular prime with its ghost polynomial.
-abbrev pub Means : List ℕ → ℕ → List ℕ → List ℕ → List ℕ → Inversion → Type 0
-Means f m ps g acc Inverted = Inverse (length f) m f acc
-Means f m ps g acc (Ghost p) = Smallest (length f) f ps p × GhostPolynomial (length f) p f g
+abbrev pub Means : List ℕ → ℕ → List ℕ → List ℕ → Inversion → Type 0
+Means f m g acc Inverted = Inverse (length f) m f acc
+Means f m g acc (Ghost p) = Smallest (length f) m f p × GhostPolynomial (length f) p f g
 
-pub record Solved (f : List ℕ) (m : ℕ) (ps g acc : List ℕ) (r : Inversion) : Type 0 where
-  pub means : Means f m ps g acc r
+pub record Solved (f : List ℕ) (m : ℕ) (g acc : List ℕ) (r : Inversion) : Type 0 where
+  pub means : Means f m g acc r
 
 -- ---- the calls' work on slices of n entries
 
@@ -103,12 +103,12 @@ pub record Multipliable (w : List ℕ) (factor : ℕ) (out : List ℕ) : Type 0 
   pub low : (k : ℕ) → factor * at w k ≤ most-modulus
 
 -- Invert: the inverse, or the ghost.
-abbrev pub InvertMeans : List ℕ → ℕ → List ℕ → List ℕ → Inversion → Type 0
-InvertMeans f m ps out Inverted = Inverse (length f) m f out
-InvertMeans f m ps out (Ghost p) = Smallest (length f) f ps p × ghosts.Ghost (length f) m f p out
+abbrev pub InvertMeans : List ℕ → ℕ → List ℕ → Inversion → Type 0
+InvertMeans f m out Inverted = Inverse (length f) m f out
+InvertMeans f m out (Ghost p) = Smallest (length f) m f p × ghosts.Ghost (length f) m f p out
 
-pub record Inverting (f : List ℕ) (m : ℕ) (ps out : List ℕ) (r : Inversion) : Type 0 where
-  pub means : InvertMeans f m ps out r
+pub record Inverting (f : List ℕ) (m : ℕ) (out : List ℕ) (r : Inversion) : Type 0 where
+  pub means : InvertMeans f m out r
 
 pub record Unmixable (f y : List ℕ) (m : ℕ) (ps es room g acc out : List ℕ) : Type 0 where
   pub solvable : Solvable f m ps es room g acc
@@ -117,12 +117,12 @@ pub record Unmixable (f y : List ℕ) (m : ℕ) (ps es room g acc out : List ℕ
   pub out-long : length out ≡ length f
 
 -- Unmix: the counts, or nothing is written.
-abbrev pub UnmixMeans : List ℕ → List ℕ → ℕ → List ℕ → List ℕ → List ℕ → Inversion → Type 0
-UnmixMeans f y m ps old new Inverted = Unmixed (length f) m f y new
-UnmixMeans f y m ps old new (Ghost p) = Smallest (length f) f ps p × (new ≡ old)
+abbrev pub UnmixMeans : List ℕ → List ℕ → ℕ → List ℕ → List ℕ → Inversion → Type 0
+UnmixMeans f y m old new Inverted = Unmixed (length f) m f y new
+UnmixMeans f y m old new (Ghost p) = Smallest (length f) m f p × (new ≡ old)
 
-pub record Unmixing (f y : List ℕ) (m : ℕ) (ps old new : List ℕ) (r : Inversion) : Type 0 where
-  pub means : UnmixMeans f y m ps old new r
+pub record Unmixing (f y : List ℕ) (m : ℕ) (old new : List ℕ) (r : Inversion) : Type 0 where
+  pub means : UnmixMeans f y m old new r
 
 -- ---- with room for more than n entries, and with none lent
 
@@ -181,5 +181,5 @@ pub record SameWith (f₁ y₁ f₂ y₂ : List ℕ) (m : ℕ) (ps es room g acc
   pub c₂-room : length f₁ ≤ length c₂
 
 -- The verdict on a legal call.
-pub record Judged (n m : ℕ) (f₁ y₁ f₂ y₂ ps : List ℕ) (v : Verdict) : Type 0 where
-  pub means : VerdictMeans n m f₁ y₁ f₂ y₂ ps v
+pub record Judged (n m : ℕ) (f₁ y₁ f₂ y₂ : List ℕ) (v : Verdict) : Type 0 where
+  pub means : VerdictMeans n m f₁ y₁ f₂ y₂ v

@@ -137,7 +137,7 @@ fn solve(
     acc: &mut [u32],
 ) -> Inversion
     requires { ⌜ Solvable (now f) (powers (now primes) (now exponents)) (now primes) (now exponents) (now room) (now g) (now acc) ⌝ }
-    ensures { λ r. ⌜ Solved (now (f .entry)) (powers (now (primes .entry)) (now (exponents .entry))) (now (primes .entry)) (now (g .exit)) (now (acc .exit)) r ⌝ }
+    ensures { λ r. ⌜ Solved (now (f .entry)) (powers (now (primes .entry)) (now (exponents .entry))) (now (g .exit)) (now (acc .exit)) r ⌝ }
 {
     clear(acc);
     let mut big = 1;
@@ -179,7 +179,7 @@ fn invert_in(
     out: &mut [u32],
 ) -> Inversion
     requires { ⌜ Solvable (now f) m (now primes) (now exponents) (now room) (now g) (now out) ⌝ }
-    ensures { λ r. ⌜ Inverting (now (f .entry)) m (now (primes .entry)) (now (out .exit)) r ⌝ }
+    ensures { λ r. ⌜ Inverting (now (f .entry)) m (now (out .exit)) r ⌝ }
 {
     match solve(f, primes, exponents, room, g, out) {
         Inversion::Inverted => Inversion::Inverted,
@@ -203,7 +203,7 @@ fn unmix_in(
     out: &mut [u32],
 ) -> Inversion
     requires { ⌜ Unmixable (now f) (now y) m (now primes) (now exponents) (now room) (now g) (now acc) (now out) ⌝ }
-    ensures { λ r. ⌜ Unmixing (now (f .entry)) (now (y .entry)) m (now (primes .entry)) (now (out .entry)) (now (out .exit)) r ⌝ }
+    ensures { λ r. ⌜ Unmixing (now (f .entry)) (now (y .entry)) m (now (out .entry)) (now (out .exit)) r ⌝ }
 {
     match solve(f, primes, exponents, room, g, acc) {
         Inversion::Inverted => {
@@ -224,7 +224,7 @@ fn invert_with(
     out: &mut [u32],
 ) -> Inversion
     requires { ⌜ InvertWith (now f) m (now primes) (now exponents) (now room) (now g) (now out) ⌝ }
-    ensures { λ r. ⌜ Inverting (now (f .entry)) m (now (primes .entry)) (now (out .exit)) r ⌝ }
+    ensures { λ r. ⌜ Inverting (now (f .entry)) m (now (out .exit)) r ⌝ }
 {
     let n = f.len();
     invert_in(f, m, primes, exponents, &mut room[..n], &mut g[..n], out)
@@ -232,7 +232,7 @@ fn invert_with(
 
 fn invert_legal(f: &[u32], m: u32, primes: &[u32], exponents: &[u8], out: &mut [u32]) -> Inversion
     requires { ⌜ InvertLegal (now f) m (now primes) (now exponents) (now out) ⌝ }
-    ensures { λ r. ⌜ Inverting (now (f .entry)) m (now (primes .entry)) (now (out .exit)) r ⌝ }
+    ensures { λ r. ⌜ Inverting (now (f .entry)) m (now (out .exit)) r ⌝ }
 {
     let mut room = [0u32; MOST_ENTRIES];
     let mut g = [0u32; MOST_ENTRIES];
@@ -270,7 +270,7 @@ fn unmix_with(
     out: &mut [u32],
 ) -> Inversion
     requires { ⌜ UnmixWith (now f) (now y) m (now primes) (now exponents) (now room) (now g) (now acc) (now out) ⌝ }
-    ensures { λ r. ⌜ Unmixing (now (f .entry)) (now (y .entry)) m (now (primes .entry)) (now (out .entry)) (now (out .exit)) r ⌝ }
+    ensures { λ r. ⌜ Unmixing (now (f .entry)) (now (y .entry)) m (now (out .entry)) (now (out .exit)) r ⌝ }
 {
     let n = f.len();
     unmix_in(
@@ -295,7 +295,7 @@ fn unmix_legal(
     out: &mut [u32],
 ) -> Inversion
     requires { ⌜ UnmixLegal (now f) (now y) m (now primes) (now exponents) (now out) ⌝ }
-    ensures { λ r. ⌜ Unmixing (now (f .entry)) (now (y .entry)) m (now (primes .entry)) (now (out .entry)) (now (out .exit)) r ⌝ }
+    ensures { λ r. ⌜ Unmixing (now (f .entry)) (now (y .entry)) m (now (out .entry)) (now (out .exit)) r ⌝ }
 {
     let mut room = [0u32; MOST_ENTRIES];
     let mut g = [0u32; MOST_ENTRIES];
@@ -374,7 +374,7 @@ fn same_in(
     c2: &mut [u32],
 ) -> Verdict
     requires { ⌜ SameIn (now f1) (now y1) (now f2) (now y2) m (now primes) (now exponents) (now room) (now g) (now acc) (now c1) (now c2) ⌝ }
-    ensures { λ r. ⌜ Judged (length (now (f1 .entry))) m (now (f1 .entry)) (now (y1 .entry)) (now (f2 .entry)) (now (y2 .entry)) (now (primes .entry)) r ⌝ }
+    ensures { λ r. ⌜ Judged (length (now (f1 .entry))) m (now (f1 .entry)) (now (y1 .entry)) (now (f2 .entry)) (now (y2 .entry)) r ⌝ }
 {
     match unmix_in(f1, y1, m, primes, exponents, room, g, acc, c1) {
         Inversion::Ghost(p) => Verdict::Singular { ring: 1, prime: p },
@@ -405,7 +405,7 @@ fn same_with(
     c2: &mut [u32],
 ) -> Verdict
     requires { ⌜ SameWith (now f1) (now y1) (now f2) (now y2) m (now primes) (now exponents) (now room) (now g) (now acc) (now c1) (now c2) ⌝ }
-    ensures { λ r. ⌜ Judged (length (now (f1 .entry))) m (now (f1 .entry)) (now (y1 .entry)) (now (f2 .entry)) (now (y2 .entry)) (now (primes .entry)) r ⌝ }
+    ensures { λ r. ⌜ Judged (length (now (f1 .entry))) m (now (f1 .entry)) (now (y1 .entry)) (now (f2 .entry)) (now (y2 .entry)) r ⌝ }
 {
     let n = f1.len();
     same_in(
@@ -434,7 +434,7 @@ fn same_legal(
     exponents: &[u8],
 ) -> Verdict
     requires { ⌜ SameLegal (now f1) (now y1) (now f2) (now y2) m (now primes) (now exponents) ⌝ }
-    ensures { λ r. ⌜ Judged (length (now (f1 .entry))) m (now (f1 .entry)) (now (y1 .entry)) (now (f2 .entry)) (now (y2 .entry)) (now (primes .entry)) r ⌝ }
+    ensures { λ r. ⌜ Judged (length (now (f1 .entry))) m (now (f1 .entry)) (now (y1 .entry)) (now (f2 .entry)) (now (y2 .entry)) r ⌝ }
 {
     let mut room = [0u32; MOST_ENTRIES];
     let mut g = [0u32; MOST_ENTRIES];

@@ -1,6 +1,6 @@
 -- What a legal sheet comes to, from the contracts of invert and mix alone: invert is not refused, its answer is the inverse or the ghost, and the
 -- inverse mixed with the readings is the counts behind them. Assumes nothing.
-use Prim.Native.Nat.{ℕ, _≤_, _<_, _∣_}
+use Prim.Native.Nat.{ℕ, _≤_, _<_}
 use mathlib.Core.Path.{_≡_, refl, sym, subst, _∙_, ap}
 use mathlib.Core.Bool.{Bool, true, false}
 use mathlib.Core.List.{List, [], _∷_, _++_, append-nil, append-assoc}
@@ -9,7 +9,6 @@ use native.Mathlib.Omega.{arith}
 use native.Mathlib.Nat.{le-of-dvd}
 use borrow.Author.Tests.{eq-eqb}
 use lib.ListN.{length}
-use Rattle.modular.specs.Prime.{Prime}
 use Rattle.ring.specs.Ring.{Ring}
 use Rattle.ring.specs.Mix.{mix}
 use Rattle.ring.specs.Inverse.{Inverse}
@@ -28,7 +27,6 @@ use Rattle.inverter.specs.Counts.{Counts, Unmixed}
 use Rattle.inverter.specs.Smallest.{Smallest}
 use Rattle.inverter.specs.Ghost.{Ghost}
 use Rattle.inverter.proofs.Legal.{Granted, granted, invert-passes}
-use Rattle.inverter.proofs.Patterns.{smallest-prime}
 use Rattle.inverter.proofs.Ghosts.{ghost-ring}
 use Rattle.inverter.proofs.Unmixing.{mixed-counts}
 use Rattle.lines.specs.Items.{Item}
@@ -144,19 +142,19 @@ module _ (f y : List ℕ) (present : Bool) (m : ℕ) (ps es : List ℕ) (passes 
   -- ---- a ghost
 
   module _ {old w : List ℕ} {ring prime : ℕ} (i : Inverts f m ps es old (Singular ring prime) w) where
-    a-prime : Prime prime × (prime ∣ m)
-    a-prime = smallest-prime (all .factors) (length f) (all .legal .some) f refl (i .meets .1 .smallest)
+    smallest : Smallest (length f) m f prime
+    smallest = i .meets .1 .smallest
 
     a-ring : Ring (length f) m w
-    a-ring = ghost-ring (length f) m f (a-prime .0 .two) positive (a-prime .1) (i .meets .1 .ghost)
+    a-ring = ghost-ring (length f) m f (smallest .prime .two) positive (smallest .divides) (i .meets .1 .ghost)
 
     pub ghost-fits : {text : List ℕ} {p : ℕ} → p ≡ prime → text-room ≤ length text → Room (heading n modulus ++ singular-line p w) 0 text
-    ghost-fits e room = rw (e, entries, same) (ghost-room (all .legal .few) (all .legal .high) room (le-of-dvd positive (a-prime .1)) a-ring)
+    ghost-fits e room = rw (e, entries, same) (ghost-room (all .legal .few) (all .legal .high) room (le-of-dvd positive (smallest .divides)) a-ring)
 
     pub displays-ghost : {text new : List ℕ} {end p : ℕ} → p ≡ prime → Puts (heading n modulus ++ singular-line p w) 0 text new end → Displays (Shown h) h text new end
     displays-ghost {text} {new} {end} {p} e puts = record {
       outcome = singular prime w;
-      fits = (passes, i .meets .1 .smallest, i .meets .1 .ghost);
+      fits = (passes, smallest, i .meets .1 .ghost);
       puts = subst (λ (items : List Item). Puts items 0 text new end) page puts;
     }
       where

@@ -17,7 +17,7 @@ use Rattle.answer.specs.declared.Refusal.{Refusal}
 use Rattle.inverter.specs.Smallest.{Smallest}
 use Rattle.inverter.specs.Ghost.{Ghost}
 use Rattle.inverter.proofs.Legal.{Granted, granted}
-use Rattle.inverter.proofs.Patterns.{one-smallest, smallest-prime, smallest-none}
+use Rattle.inverter.proofs.Patterns.{one-smallest, smallest-none}
 use Rattle.inverter.proofs.Ghosts.{one-ghost}
 use Rattle.inverter.proofs.Unmixing.{one-unmixed}
 use Rattle.lines.specs.Puts.{Puts}
@@ -48,8 +48,8 @@ module _ (h : Held) where
   all : first (held-order h) ≡ Passed → Granted (h .pattern) (ring-2 (h .readings)) (h .modulus) (h .primes) (h .exponents)
   all e = granted (h .pattern) (ring-2 (h .readings)) (h .modulus) (h .primes) (h .exponents) [] e .0
 
-  never-both : {prime : ℕ} {g : List ℕ} → first (held-order h) ≡ Passed → Smallest (length (h .pattern)) (h .pattern) (h .primes) prime → Inverse (length (h .pattern)) (h .modulus) (h .pattern) g → ⊥
-  never-both {g = g} e s i = let a = all e in smallest-none (a .factors) (length (h .pattern)) (a .legal .some) (h .pattern) refl s (record { inverse = g; is = i })
+  never-both : {prime : ℕ} {g : List ℕ} → first (held-order h) ≡ Passed → Smallest (length (h .pattern)) (h .modulus) (h .pattern) prime → Inverse (length (h .pattern)) (h .modulus) (h .pattern) g → ⊥
+  never-both {g = g} e s i = smallest-none (length (h .pattern)) (all e .legal .some) (h .pattern) refl s (record { inverse = g; is = i })
 
   one-outcome : (x y : Outcome) → Shown h x → Shown h y → x ≡ y
   one-outcome (refused r) (refused r′) a b = ap refused (same-refusal a b)
@@ -57,11 +57,9 @@ module _ (h : Held) where
   one-outcome (refused r) (inverted g c) a b = absurd (passed-refused (b .0) a)
   one-outcome (singular p w) (refused r) a b = absurd (passed-refused (a .0) b)
   one-outcome (singular p w) (singular p′ w′) (e, s, g) (_, s′, g′) =
-      let a = all e in
       let q = one-smallest s s′ in
       let n = length (h .pattern) in
-      let two = smallest-prime (a .factors) n (a .legal .some) (h .pattern) refl s′ .0 .two in
-      rw (q, one-ghost n (h .modulus) (h .pattern) (a .legal .some) refl two (subst (λ (z : ℕ). Ghost n (h .modulus) (h .pattern) z w) q g) g′)
+      rw (q, one-ghost n (h .modulus) (h .pattern) (all e .legal .some) refl (s′ .prime .two) (subst (λ (z : ℕ). Ghost n (h .modulus) (h .pattern) z w) q g) g′)
   one-outcome (singular p w) (inverted g c) (e, s, _) (_, i, _) = absurd (never-both e s i)
   one-outcome (inverted g c) (refused r) a b = absurd (passed-refused (a .0) b)
   one-outcome (inverted g c) (singular p w) (_, i, _) (e, s, _) = absurd (never-both e s i)

@@ -41,7 +41,7 @@ CountsBehind n m f (some readings) (some counts) = Unmixed n m f readings counts
 abbrev pub Shown : Held → Outcome → Type 0
 Shown h (refused r) = first (held-order h) ≡ Refused r
 Shown h (singular prime ghost) = let n = length (h .pattern) in
-    (first (held-order h) ≡ Passed) × Smallest n (h .pattern) (h .primes) prime × Ghost n (h .modulus) (h .pattern) prime ghost
+    (first (held-order h) ≡ Passed) × Smallest n (h .modulus) (h .pattern) prime × Ghost n (h .modulus) (h .pattern) prime ghost
 Shown h (inverted inverse counts) = let n = length (h .pattern) in
     (first (held-order h) ≡ Passed) × Inverse n (h .modulus) (h .pattern) inverse × CountsBehind n (h .modulus) (h .pattern) (h .readings) counts
 
