@@ -1,39 +1,16 @@
--- A loop over the front of a row: entry k is not yet changed in turn k, and where the terms past the front are 0 the rest is right as it came.
--- Assumes nothing.
-use Prim.Native.Nat.{ℕ, zero, suc, _+_, _*_, _-_, _%_, _≤_, _<_}
+-- A row plus terms: where the terms past the front are 0, a loop over the front is enough; and what such a row holds at every place. Assumes nothing.
+use Prim.Native.Nat.{ℕ, zero, suc, _+_, _*_, _%_, _≤_, _<_}
 use mathlib.Core.Path.{_≡_, sym, ap, _∙_}
 use mathlib.Core.List.{List, _∷_, _++_}
 use native.Mathlib.Omega.{arith}
 use native.Mathlib.Decide.{decLt}
 use native.Mathlib.Nat.{mod-lt, mod-eq-of-lt, zero-mod, add-zero, mul-zero}
 use native.Mathlib.Numerals.{add-one}
-use lib.ListN.{length, drop, set, List·getD-append}
-use lib.Seq.{drop-cons, getD-at, getD-append-add, getD-drop, ext-getD}
+use lib.ListN.{length, drop}
 use Rattle.sums.specs.Table.{at, table}
 use Rattle.sums.proofs.Tables.{at-past, length-table, at-table, table-low}
-use Rattle.sums.proofs.Fill.{fill-step, fill-length}
+use Rattle.sums.proofs.Fill.{fill-rest}
 use Rattle.modular.specs.Row.{times, times-linear, terms, plus}
-
--- A turn of the loop: it reads entry k of a, which is as it came, and stores entry k of the answer.
-module _ (f : ℕ → ℕ) (d : List ℕ) (k : ℕ) (h : k < length d) {a : List ℕ} (e : a ≡ table k f ++ drop k d) where
-  pub fill-read : at a k ≡ at d k
-  fill-read = ap (λ (l : List ℕ). at l k) e ∙ rw (drop-cons d k 0) (getD-at (table k f) (at d k) _ 0 k (length-table k f))
-
-  pub fill-store : {v : ℕ} → v ≡ f k → set a k v ≡ table (k + 1) f ++ drop (k + 1) d
-  fill-store q = (λ i. set (e i) k (q i)) ∙ fill-step f d k h
-
-pub fill-rest : (f : ℕ → ℕ) (d : List ℕ) (k : ℕ) → k ≤ length d → ((i : ℕ) → k ≤ i → f i ≡ at d i) → table k f ++ drop k d ≡ table (length d) f
-fill-rest f d k l h = ext-getD 0 (table k f ++ drop k d) (table (length d) f) (fill-length f d k l ∙ sym (length-table (length d) f)) each
-  where
-    past : (i : ℕ) → k ≤ i → at (table k f ++ drop k d) i ≡ at d i
-    past i g = ap (λ (j : ℕ). at (table k f ++ drop k d) j) (omega (arith, length-table k f)) ∙ getD-append-add (table k f) (drop k d) (i - k) 0 ∙ getD-drop k d (i - k) 0
-        ∙ ap (λ (j : ℕ). at d j) (omega arith)
-
-    each : (i : ℕ) → i < length (table k f ++ drop k d) → at (table k f ++ drop k d) i ≡ at (table (length d) f) i
-    each i b = let c : i < length d = omega (arith, fill-length f d k l) in elim (decLt i k) [
-      | yes s ↦ List·getD-append (table k f) (drop k d) 0 i (omega (arith, length-table k f)) ∙ at-table k f i s ∙ sym (at-table (length d) f i c)
-      | no s ↦ past i (omega arith) ∙ sym (h i (omega arith)) ∙ sym (at-table (length d) f i c)
-    ]
 
 -- Entry i of a row plus terms.
 abbrev pub plus-at : ℕ → List ℕ → (ℕ → ℕ) → ℕ → ℕ

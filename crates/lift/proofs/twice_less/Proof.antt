@@ -5,9 +5,8 @@ use mathlib.Core.List.{List, _++_}
 use Prim.Native.Nat.{ℕ, _+_, _-_, _*_, _%_, _≤_, _<_}
 use lib.ListN.{length, drop, length-set}
 use Rattle.sums.specs.Table.{at, table}
-use Rattle.sums.proofs.Fill.{fill-none, fill-all}
+use Rattle.sums.proofs.Fill.{fill-none, fill-all, fill-read, fill-store}
 use Rattle.limits.specs.Limits.{most-modulus}
-use Rattle.modular.proofs.Rows.{fill-read, fill-store}
 use borrow.Author.Needs.{needs}
 use native.Mathlib.Omega.{arith}
 use Rattle.lift.proofs.twice_less.Statement.{statement}

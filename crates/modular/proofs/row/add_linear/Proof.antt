@@ -5,9 +5,9 @@ use mathlib.Core.Path.{_≡_, refl, sym, ap, _∙_}
 use mathlib.Core.List.{_∷_, _++_}
 use lib.ListN.{length, drop, length-set}
 use Rattle.sums.specs.Table.{at, table}
-use Rattle.sums.proofs.Fill.{fill-none}
+use Rattle.sums.proofs.Fill.{fill-none, fill-read, fill-store}
 use Rattle.modular.specs.Row.{times-linear}
-use Rattle.modular.proofs.Rows.{plus-at, plus-value, plus-all, fill-read, fill-store, up-next, up-low, times-linear-past, times-linear-last}
+use Rattle.modular.proofs.Rows.{plus-at, plus-value, plus-all, up-next, up-low, times-linear-past, times-linear-last}
 use borrow.Author.Needs.{needs}
 use native.Mathlib.Omega.{arith}
 use Rattle.modular.proofs.row.add_linear.Statement.{statement}

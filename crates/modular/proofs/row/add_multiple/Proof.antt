@@ -5,9 +5,9 @@ use mathlib.Core.Path.{_≡_, refl, _∙_}
 use mathlib.Core.List.{_++_}
 use lib.ListN.{length, drop, length-set}
 use Rattle.sums.specs.Table.{table}
-use Rattle.sums.proofs.Fill.{fill-none}
+use Rattle.sums.proofs.Fill.{fill-none, fill-read, fill-store}
 use Rattle.modular.specs.Row.{times}
-use Rattle.modular.proofs.Rows.{plus-at, plus-value, plus-all, fill-read, fill-store, times-past}
+use Rattle.modular.proofs.Rows.{plus-at, plus-value, plus-all, times-past}
 use borrow.Author.Needs.{needs}
 use native.Mathlib.Omega.{arith}
 use Rattle.modular.proofs.row.add_multiple.Statement.{statement}

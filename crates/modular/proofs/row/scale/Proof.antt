@@ -6,9 +6,8 @@ use mathlib.Core.List.{_++_}
 use native.Mathlib.Nat.{zero-add}
 use lib.ListN.{length, drop, length-set}
 use Rattle.sums.specs.Table.{table}
-use Rattle.sums.proofs.Fill.{fill-none, fill-all}
+use Rattle.sums.proofs.Fill.{fill-none, fill-all, fill-read, fill-store}
 use Rattle.modular.specs.Row.{times, terms}
-use Rattle.modular.proofs.Rows.{fill-read, fill-store}
 use borrow.Author.Needs.{needs}
 use native.Mathlib.Omega.{arith}
 use Rattle.modular.proofs.row.scale.Statement.{statement}
