@@ -13,3 +13,7 @@ most-modulus = 1000000
 -- The most decimal digits of a modulus, and so of an entry.
 abbrev pub most-digits : ℕ
 most-digits = 7
+
+-- "One to seven entries suffice." (The most entries of a factor list.)
+abbrev pub most-factors : ℕ
+most-factors = 7

@@ -8,3 +8,6 @@ pub const MOST_MODULUS: u32 = 1_000_000;
 
 // The most decimal digits of a modulus, and so of an entry.
 pub const MOST_DIGITS: usize = 7;
+
+// The most entries of a factor list.
+pub const MOST_FACTORS: usize = 7;

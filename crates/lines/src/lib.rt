@@ -48,7 +48,7 @@ pub fn put_number(text: &mut [u8], at: usize, x: u64) -> usize
     put_digits(text, start, x)
 }
 
-fn wide(x: u32) -> u64
+pub fn wide(x: u32) -> u64
     ensures { λ r. ⌜ r ≡ x ⌝ }
 {
     x as u64

@@ -5,7 +5,7 @@ use mathlib.Core.Bool.{Bool}
 use mathlib.Core.List.{List}
 use mathlib.Core.Option.{some}
 use lib.ListN.{length}
-use Rattle.limits.specs.Limits.{most-entries}
+use Rattle.limits.specs.Limits.{most-entries, most-factors}
 use Rattle.ring.specs.Mix.{mix}
 use Rattle.answer.specs.Order.{first}
 use Rattle.answer.specs.declared.Check.the-variants.{Passed}
@@ -57,10 +57,6 @@ pub record Decodes (factors pattern readings ps es f y text : List ℕ) : Type 0
   pub pattern-long : length f ≡ length pattern / 4
   pub readings-long : length y ≡ length readings / 4
   pub room : text-room ≤ length text
-
--- The most entries of a factor list in a sheet.
-abbrev pub most-factors : ℕ
-most-factors = 7
 
 -- Parts that are no longer than a sheet's.
 pub record Parts (factors pattern readings text : List ℕ) : Type 0 where

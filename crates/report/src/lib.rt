@@ -11,10 +11,12 @@ use calls::mix;
 use inverter::invert;
 use limits::MOST_DIGITS;
 use limits::MOST_ENTRIES;
+use limits::MOST_FACTORS;
 use lines::put_line;
 use lines::put_named;
 use lines::put_number;
 use lines::put_word;
+use lines::wide;
 use sheet::Sheet;
 use sheet::exponents_of;
 use sheet::factors_of;
@@ -41,16 +43,7 @@ ghost use Rattle.report.specs.Inner.{decoded, in-parts, CountsReady, Leg
 // Room for every text: two rings with a blank before each entry, and the words.
 pub const TEXT_ROOM: usize = 2 * MOST_ENTRIES * (1 + MOST_DIGITS) + 128;
 
-// The most entries of a factor list in a sheet.
-const MOST_FACTORS: usize = 7;
-
-fn wide(x: usize) -> u64
-    ensures { λ r. ⌜ r ≡ x ⌝ }
-{
-    x as u64
-}
-
-fn wider(x: u32) -> u64
+fn as_number(x: usize) -> u64
     ensures { λ r. ⌜ r ≡ x ⌝ }
 {
     x as u64
@@ -92,10 +85,10 @@ fn put_refusal(text: &mut [u8], refusal: Refusal) -> usize
     let told = row.told;
     put_refused(
         text,
-        wider(row.number),
+        wide(row.number),
         told,
-        wide(refusal.ring),
-        wide(refusal.place),
+        as_number(refusal.ring),
+        as_number(refusal.place),
     )
 }
 
@@ -152,8 +145,8 @@ fn report_in(
     requires { ⌜ Legal (decoded (now f) (now y) present m (now primes) (now exponents)) (now inverse) (now counts) (now text) ⌝ }
     ensures { λ r. ⌜ (let h = decoded (now (f .entry)) (now (y .entry)) present m (now (primes .entry)) (now (exponents .entry)) in Displays (Shown h) h (now (text .entry)) (now (text .exit)) r) ⌝ }
 {
-    let n = wide(f.len());
-    let modulus = wider(m);
+    let n = as_number(f.len());
+    let modulus = wide(m);
     match invert(f, m, primes, exponents, inverse) {
         Answer::Done => {
             let end = put_inverse(text, n, modulus, inverse);
@@ -162,7 +155,7 @@ fn report_in(
             }
             end
         }
-        Answer::Singular { ring: _, prime } => put_ghost(text, n, modulus, wider(prime), inverse),
+        Answer::Singular { ring: _, prime } => put_ghost(text, n, modulus, wide(prime), inverse),
         Answer::Refused(refusal) => put_refusal(text, refusal),
     }
 }

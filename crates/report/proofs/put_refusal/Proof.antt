@@ -20,14 +20,14 @@ by-row r e k-is ring-is place-is p = rw (← e, ← k-is, ← ring-is, ← place
 row-of-requires : tie.Need-row-of-requires
 row-of-requires c κs = search needs
 
-wider-requires : tie.Need-wider-requires
-wider-requires c κs = search needs
-
 wide-requires : tie.Need-wide-requires
 wide-requires c κs = search needs
 
-wide-requires-2 : tie.Need-wide-requires-2
-wide-requires-2 c κs = search needs
+as-number-requires : tie.Need-as-number-requires
+as-number-requires c κs = search needs
+
+as-number-requires-2 : tie.Need-as-number-requires-2
+as-number-requires-2 c κs = search needs
 
 put-refused-requires : tie.Need-put-refused-requires
 put-refused-requires c κs = search needs
@@ -36,16 +36,16 @@ same-length : tie.Need-same-length
 same-length c = search needs
 
 returns : tie.Need-returns
-returns c = by-row (c .before .before .before .before .before .before .before .before .before .args .refusal) (c .before .before .before .before .before .before .before .row-of .ensures) (c .before .before .before .before .before .wider .ensures) (c .before .before .before .before .wide .ensures) (c .before .before .before .wide2 .ensures) (c .before .before .put-refused .ensures)
+returns c = by-row (c .before .before .before .before .before .before .before .before .before .args .refusal) (c .before .before .before .before .before .before .before .row-of .ensures) (c .before .before .before .before .before .wide .ensures) (c .before .before .before .before .as-number .ensures) (c .before .before .before .as-number2 .ensures) (c .before .before .put-refused .ensures)
 
 pub put-refusal-spec : {M : Type 1} → statement M
 put-refusal-spec =
     tie.close
     (tie.spec
     row-of-requires
-    wider-requires
     wide-requires
-    wide-requires-2
+    as-number-requires
+    as-number-requires-2
     put-refused-requires
     same-length
     returns)

@@ -5,11 +5,11 @@ use borrow.Author.Needs.{needs}
 use Rattle.report.proofs.report_in.Statement.{statement}
 use Rattle.report.proofs.report_in.Tie as tie
 
+as-number-requires : tie.Need-as-number-requires
+as-number-requires c κs = search needs
+
 wide-requires : tie.Need-wide-requires
 wide-requires c κs = search needs
-
-wider-requires : tie.Need-wider-requires
-wider-requires c κs = search needs
 
 invert-requires : tie.Need-invert-requires
 invert-requires c κs = search needs
@@ -21,13 +21,13 @@ put-inverse-requires : tie.Need-put-inverse-requires
 put-inverse-requires c κs =
     let start = c .before .before .before .before .before .before .before .before .before .before .before .before .before .before .before .before .before in
     let given = start .args in
-    inverse-fits (given .f .now) (given .y .now) (given .present) (given .m) (given .primes .now) (given .exponents .now) (start .pre .passes) (c .before .before .before .before .before .before .before .before .before .wide .ensures) (c .before .before .before .before .before .before .before .before .wider .ensures) (known (c .before .before .enum-told .given .1) (c .before .before .before .before .before .before .invert .ensures)) (start .pre .room)
+    inverse-fits (given .f .now) (given .y .now) (given .present) (given .m) (given .primes .now) (given .exponents .now) (start .pre .passes) (c .before .before .before .before .before .before .before .before .before .as-number .ensures) (c .before .before .before .before .before .before .before .before .wide .ensures) (known (c .before .before .enum-told .given .1) (c .before .before .before .before .before .before .invert .ensures)) (start .pre .room)
 
 put-counts-requires : tie.Need-put-counts-requires
 put-counts-requires c κs =
     let start = c .before .before .before .before .before .before .before .before .before .before .before .before .before .before .before .before .before .before .before .before .before .before .before .before in
     let given = start .args in
-    counts-ready (given .f .now) (given .y .now) (given .present) (given .m) (given .primes .now) (given .exponents .now) (start .pre .passes) (c .before .before .before .before .before .before .before .before .before .before .before .before .before .before .before .before .wide .ensures) (c .before .before .before .before .before .before .before .before .before .before .before .before .before .before .before .wider .ensures) (known (c .before .before .before .before .before .before .before .before .before .enum-told .given .1) (c .before .before .before .before .before .before .before .before .before .before .before .before .before .invert .ensures)) (c .before .before .before .if1 .taken) (start .pre .counts-long) (start .pre .room) (c .before .before .before .before .before .before .put-inverse .ensures)
+    counts-ready (given .f .now) (given .y .now) (given .present) (given .m) (given .primes .now) (given .exponents .now) (start .pre .passes) (c .before .before .before .before .before .before .before .before .before .before .before .before .before .before .before .before .as-number .ensures) (c .before .before .before .before .before .before .before .before .before .before .before .before .before .before .before .wide .ensures) (known (c .before .before .before .before .before .before .before .before .before .enum-told .given .1) (c .before .before .before .before .before .before .before .before .before .before .before .before .before .invert .ensures)) (c .before .before .before .if1 .taken) (start .pre .counts-long) (start .pre .room) (c .before .before .before .before .before .before .put-inverse .ensures)
 
 same-length : tie.Need-same-length
 same-length c = search needs
@@ -42,19 +42,19 @@ returns : tie.Need-returns
 returns c =
     let start = c .before .before .before .before .before .before .before .before .before .before .before .before .before .before .before .before .before .before .before .before .before .before .before .before .before .before .before .before .before in
     let given = start .args in
-    displays-counts (given .f .now) (given .y .now) (given .present) (given .m) (given .primes .now) (given .exponents .now) (start .pre .passes) (c .before .before .before .before .before .before .before .before .before .before .before .before .before .before .before .before .before .before .before .before .before .wide .ensures) (c .before .before .before .before .before .before .before .before .before .before .before .before .before .before .before .before .before .before .before .before .wider .ensures) (known (c .before .before .before .before .before .before .before .before .before .before .before .before .before .before .enum-told .given .1) (c .before .before .before .before .before .before .before .before .before .before .before .before .before .before .before .before .before .before .invert .ensures)) (c .before .before .before .before .before .before .before .before .if1 .taken) (c .before .before .before .before .before .before .before .before .before .before .before .put-inverse .ensures) (c .before .before .before .before .put-counts .ensures)
+    displays-counts (given .f .now) (given .y .now) (given .present) (given .m) (given .primes .now) (given .exponents .now) (start .pre .passes) (c .before .before .before .before .before .before .before .before .before .before .before .before .before .before .before .before .before .before .before .before .before .as-number .ensures) (c .before .before .before .before .before .before .before .before .before .before .before .before .before .before .before .before .before .before .before .before .wide .ensures) (known (c .before .before .before .before .before .before .before .before .before .before .before .before .before .before .enum-told .given .1) (c .before .before .before .before .before .before .before .before .before .before .before .before .before .before .before .before .before .before .invert .ensures)) (c .before .before .before .before .before .before .before .before .if1 .taken) (c .before .before .before .before .before .before .before .before .before .before .before .put-inverse .ensures) (c .before .before .before .before .put-counts .ensures)
 
 enum-known-prime : tie.Need-enum-known-prime
 enum-known-prime c = search needs
 
-wider-requires-2 : tie.Need-wider-requires-2
-wider-requires-2 c κs = search needs
+wide-requires-2 : tie.Need-wide-requires-2
+wide-requires-2 c κs = search needs
 
 put-ghost-requires : tie.Need-put-ghost-requires
 put-ghost-requires c κs =
     let start = c .before .before .before .before .before .before .before .before .before .before .before .before .before .before .before .before .before .before .before in
     let given = start .args in
-    ghost-fits (given .f .now) (given .y .now) (given .present) (given .m) (given .primes .now) (given .exponents .now) (start .pre .passes) (c .before .before .before .before .before .before .before .before .before .before .before .wide .ensures) (c .before .before .before .before .before .before .before .before .before .before .wider .ensures) (known (c .before .before .before .before .prime .given .1) (c .before .before .before .before .before .before .before .before .invert .ensures)) (c .before .wider2 .ensures) (start .pre .room)
+    ghost-fits (given .f .now) (given .y .now) (given .present) (given .m) (given .primes .now) (given .exponents .now) (start .pre .passes) (c .before .before .before .before .before .before .before .before .before .before .before .as-number .ensures) (c .before .before .before .before .before .before .before .before .before .before .wide .ensures) (known (c .before .before .before .before .prime .given .1) (c .before .before .before .before .before .before .before .before .invert .ensures)) (c .before .wide2 .ensures) (start .pre .room)
 
 enum-known-refusal : tie.Need-enum-known-refusal
 enum-known-refusal c = search needs
@@ -72,7 +72,7 @@ returns-2 : tie.Need-returns-2
 returns-2 c =
     let start = c .before .before .before .before .before .before .before .before .before .before .before .before .before .before .before .before .before .before .before .before .before in
     let given = start .args in
-    displays-inverse (given .f .now) (given .y .now) (given .present) (given .m) (given .primes .now) (given .exponents .now) (start .pre .passes) (c .before .before .before .before .before .before .before .before .before .before .before .before .before .wide .ensures) (c .before .before .before .before .before .before .before .before .before .before .before .before .wider .ensures) (known (c .before .before .before .before .before .before .enum-told .given .1) (c .before .before .before .before .before .before .before .before .before .before .invert .ensures)) (c .if1 .left) (c .before .before .before .put-inverse .ensures)
+    displays-inverse (given .f .now) (given .y .now) (given .present) (given .m) (given .primes .now) (given .exponents .now) (start .pre .passes) (c .before .before .before .before .before .before .before .before .before .before .before .before .before .as-number .ensures) (c .before .before .before .before .before .before .before .before .before .before .before .before .wide .ensures) (known (c .before .before .before .before .before .before .enum-told .given .1) (c .before .before .before .before .before .before .before .before .before .before .invert .ensures)) (c .if1 .left) (c .before .before .before .put-inverse .ensures)
 
 same-length-6 : tie.Need-same-length-6
 same-length-6 c = search needs
@@ -84,7 +84,7 @@ returns-3 : tie.Need-returns-3
 returns-3 c =
     let start = c .before .before .before .before .before .before .before .before .before .before .before .before .before .before .before .before .before .before .before .before .before .before in
     let given = start .args in
-    displays-ghost (given .f .now) (given .y .now) (given .present) (given .m) (given .primes .now) (given .exponents .now) (start .pre .passes) (c .before .before .before .before .before .before .before .before .before .before .before .before .before .before .wide .ensures) (c .before .before .before .before .before .before .before .before .before .before .before .before .before .wider .ensures) (known (c .before .before .before .before .before .before .before .prime .given .1) (c .before .before .before .before .before .before .before .before .before .before .before .invert .ensures)) (c .before .before .before .before .wider2 .ensures) (c .before .before .put-ghost .ensures)
+    displays-ghost (given .f .now) (given .y .now) (given .present) (given .m) (given .primes .now) (given .exponents .now) (start .pre .passes) (c .before .before .before .before .before .before .before .before .before .before .before .before .before .before .as-number .ensures) (c .before .before .before .before .before .before .before .before .before .before .before .before .before .wide .ensures) (known (c .before .before .before .before .before .before .before .prime .given .1) (c .before .before .before .before .before .before .before .before .before .before .before .invert .ensures)) (c .before .before .before .before .wide2 .ensures) (c .before .before .put-ghost .ensures)
 
 same-length-8 : tie.Need-same-length-8
 same-length-8 c = search needs
@@ -96,14 +96,14 @@ returns-4 : tie.Need-returns-4
 returns-4 c =
     let start = c .before .before .before .before .before .before .before .before .before .before .before .before .before .before .before .before .before .before .before .before in
     let given = start .args in
-    absurd (not-refused (given .f .now) (given .y .now) (given .present) (given .m) (given .primes .now) (given .exponents .now) (start .pre .passes) (c .before .before .before .before .before .before .before .before .before .before .before .before .wide .ensures) (c .before .before .before .before .before .before .before .before .before .before .before .wider .ensures) (start .pre .inverse-long) (known (c .before .before .before .before .before .refusal .given .1) (c .before .before .before .before .before .before .before .before .before .invert .ensures)))
+    absurd (not-refused (given .f .now) (given .y .now) (given .present) (given .m) (given .primes .now) (given .exponents .now) (start .pre .passes) (c .before .before .before .before .before .before .before .before .before .before .before .before .as-number .ensures) (c .before .before .before .before .before .before .before .before .before .before .before .wide .ensures) (start .pre .inverse-long) (known (c .before .before .before .before .before .refusal .given .1) (c .before .before .before .before .before .before .before .before .before .invert .ensures)))
 
 pub report-in-spec : {M : Type 1} → statement M
 report-in-spec =
     tie.close
     (tie.spec
+    as-number-requires
     wide-requires
-    wider-requires
     invert-requires
     enum-told
     put-inverse-requires
@@ -113,7 +113,7 @@ report-in-spec =
     same-length-3
     returns
     enum-known-prime
-    wider-requires-2
+    wide-requires-2
     put-ghost-requires
     enum-known-refusal
     put-refusal-requires
