@@ -44,8 +44,3 @@ high-at m (x ∷ a) h = elim (decLt x m) [
   | yes l ↦ rw (lt-ltb x m l) (high-at m a (omega (arith, rw (lt-ltb x m l) at h)))
   | no l ↦ rw (le-ltb x m (omega arith)) (omega arith)
 ]
-
-pub high-le : (m : ℕ) (a : List ℕ) → first-high m a ≤ length a
-unfolding first-high
-high-le m [] = omega arith
-high-le m (x ∷ a) = elim (decLt x m) [ yes l ↦ rw (lt-ltb x m l) (omega (arith, high-le m a)) | no l ↦ rw (le-ltb x m (omega arith)) (omega arith) ]

@@ -62,6 +62,10 @@ cut k l e = both (first k) (first l) (sym (first-append k l) ∙ e)
 
 -- ---- single checks
 
+-- Never both.
+pub passed-refused : {c : Check} {r : Refusal} → c ≡ Passed → c ≡ Refused r → ⊥
+passed-refused e d = let z : _≡_ {A = ℕ} 0 1 = cc in omega arith
+
 pub passes : (b : Bool) (c : Case) (ring place : ℕ) → refuse-if b c ring place ≡ Passed → b ≡ false
 passes true c ring place e = absurd (let z : _≡_ {A = ℕ} 0 1 = cc in omega arith)
 passes false c ring place e = refl

@@ -1,6 +1,6 @@
 -- Same feeding, from what unmixing both sides and comparing the counts found. Assumes nothing.
-use Prim.Native.Nat.{ℕ, _<_}
-use mathlib.Core.Path.{_≡_, refl, sym, ap, _∙_, subst}
+use Prim.Native.Nat.{ℕ}
+use mathlib.Core.Path.{_≡_, refl, sym, _∙_, subst}
 use mathlib.Core.Logic.{inl, inr}
 use mathlib.Core.Bool.{Bool, true, false}
 use mathlib.Core.List.{List}
@@ -13,7 +13,7 @@ use Rattle.inverter.specs.Smallest.{Smallest}
 use Rattle.inverter.specs.Same.{Same}
 use Rattle.inverter.specs.Counts.{Unmixed}
 use Rattle.inverter.specs.Contracts.{Compared, same-order, SameFeeding}
-use Rattle.inverter.specs.Inner.{Factored, Unmixable, UnmixMeans, Unmixing, TellsSame, SameLegal, Judged}
+use Rattle.inverter.specs.Inner.{Unmixable, UnmixMeans, Unmixing, TellsSame, SameLegal, Judged}
 use Rattle.inverter.specs.declared.Verdict.{Verdict}
 use Rattle.inverter.specs.declared.Verdict.the-variants.{Yes, No, Singular, Refused}
 use Rattle.inverter.specs.declared.Inversion.{Inversion}

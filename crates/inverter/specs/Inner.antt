@@ -1,7 +1,7 @@
 -- What the functions behind the calls ask of each other, and what they give.
 use Prim.Native.Nat.{ℕ, _*_, _^_, _%_, _≤_, _<_}
 use mathlib.Core.Path.{_≡_}
-use mathlib.Core.Logic.{_≢_, _⊎_}
+use mathlib.Core.Logic.{_≢_}
 use mathlib.Core.Bool.{Bool, true, false}
 use mathlib.Core.List.{List}
 use lib.ListN.{length}

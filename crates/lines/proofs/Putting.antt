@@ -6,8 +6,8 @@ use mathlib.Core.List.{List, [], _∷_, _++_, append-nil, append-assoc}
 use native.Mathlib.Omega.{arith}
 use native.Mathlib.Nat.{add-assoc, pow-zero, pow-suc}
 use native.Mathlib.Numerals.{add-one}
-use lib.ListN.{length, take, drop, set, length-append, length-take, length-drop, length-set, take-append-drop}
-use lib.Seq.{length-take-le, append-snoc, set-split, take-at, drop-at, drop-drop, drop-append-add, paste, paste-zero, paste-suc, take-length}
+use lib.ListN.{length, take, drop, set, length-append, length-take, length-drop}
+use lib.Seq.{length-take-le, append-snoc, set-split, take-at, drop-drop, drop-append-add, paste, paste-zero, paste-suc, take-length}
 use Rattle.sums.specs.Table.{at}
 use Rattle.lines.specs.Decimal.{glyph}
 use Rattle.lines.specs.Items.{Item, word, number}

@@ -1,7 +1,7 @@
 -- A ring is printed entry by entry: the first i entries stand, then entry i after a blank. Assumes nothing.
 use Prim.Native.Nat.{ℕ, suc, _+_, _*_, _^_, _≤_, _<_}
 use mathlib.Core.Path.{_≡_, refl, sym, ap, _∙_, subst}
-use mathlib.Core.List.{List, [], _∷_, _++_, map-append, append-assoc}
+use mathlib.Core.List.{List, [], _∷_, _++_, map-append}
 use native.Mathlib.Omega.{arith}
 use native.Mathlib.Numerals.{add-one}
 use lib.ListN.{length, take, drop}

@@ -1,4 +1,4 @@
--- The bytes of a quoted text.
+-- The bytes of a quoted text in ASCII: the codes of its characters.
 use Prim.Native.Nat.{ℕ}
 use Prim.Native.Char.{code}
 use Prim.Native.String.{String, [] as «empty», _∷_ as _then_}

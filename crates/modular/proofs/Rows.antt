@@ -1,14 +1,13 @@
 -- A row plus terms: where the terms past the front are 0, a loop over the front is enough; and what such a row holds at every place. Assumes nothing.
 use Prim.Native.Nat.{ℕ, zero, suc, _+_, _*_, _%_, _≤_, _<_}
-use mathlib.Core.Path.{_≡_, sym, ap, _∙_}
+use mathlib.Core.Path.{_≡_, ap, _∙_}
 use mathlib.Core.List.{List, _∷_, _++_}
 use native.Mathlib.Omega.{arith}
-use native.Mathlib.Decide.{decLt}
-use native.Mathlib.Nat.{mod-lt, mod-eq-of-lt, zero-mod, add-zero, mul-zero}
+use native.Mathlib.Nat.{mod-eq-of-lt, add-zero, mul-zero}
 use native.Mathlib.Numerals.{add-one}
 use lib.ListN.{length, drop}
 use Rattle.sums.specs.Table.{at, table}
-use Rattle.sums.proofs.Tables.{at-past, length-table, at-table, table-low}
+use Rattle.sums.proofs.Tables.{at-past, length-table}
 use Rattle.sums.proofs.Fill.{fill-rest}
 use Rattle.modular.specs.Row.{times, times-linear, terms, plus}
 
@@ -33,25 +32,6 @@ module _ (p : ℕ) (l : List ℕ) (t : ℕ → ℕ) where
   pub length-plus : length (plus p l t) ≡ length l
   unfolding plus
   length-plus = length-table (length l) (plus-at p l t)
-
-  pub at-plus : ((i : ℕ) → length l ≤ i → t i ≡ 0) → (i : ℕ) → at (plus p l t) i ≡ (at l i + t i) % p
-  unfolding plus
-  at-plus none i = elim (decLt i (length l)) [
-    | yes h ↦ at-table (length l) (plus-at p l t) i h
-    | no h ↦ at-past (plus p l t) i (omega (arith, length-plus)) ∙ sym (ap (λ (x : ℕ). x % p) (omega (arith, at-past l i (omega arith), none i (omega arith))) ∙ zero-mod p)
-  ]
-
-  pub plus-low : 0 < p → (i : ℕ) → at (plus p l t) i < p
-  unfolding plus
-  plus-low h = table-low (length l) p (plus-at p l t) h (λ i. mod-lt (at l i + t i) h)
-
-module _ (p f : ℕ) (l : List ℕ) where
-  pub at-scaled : (i : ℕ) → at (terms (length l) p (times f l)) i ≡ f * at l i % p
-  unfolding terms
-  at-scaled i = elim (decLt i (length l)) [
-    | yes h ↦ at-table (length l) (λ k. times f l k % p) i h
-    | no h ↦ at-past (terms (length l) p (times f l)) i (omega (arith, length-table (length l) (λ k. times f l k % p))) ∙ sym (ap (λ (x : ℕ). x % p) (times-past f l i (omega arith)) ∙ zero-mod p)
-  ]
 
 -- A row moved up by one place.
 pub up-next : (l : List ℕ) (i : ℕ) → at (0 ∷ l) (i + 1) ≡ at l i

@@ -3,7 +3,7 @@ use Prim.Native.Nat.{ℕ, suc, _+_, _*_, _-_, _%_, _<_}
 use mathlib.Core.Path.{_≡_, _∙_, ap}
 use native.Mathlib.Omega.{arith}
 use native.Mathlib.Nat.{mod-eq-of-lt, zero-mod, mul-add-mod-self-right}
-use Rattle.poly.specs.Series.{Below, Polynomial, Reduced}
+use Rattle.poly.specs.Series.{Below, Reduced}
 use Rattle.poly.specs.Operations.{red, add, term, xn-1}
 use Rattle.poly.proofs.Products.{term-at, term-other, term-below}
 use Rattle.poly.proofs.SeriesRing
@@ -40,9 +40,6 @@ module _ (n m : ℕ) (two : 1 < m) (some : 0 < n) where
   pub cycle-below : Below (suc n) (xn-1 n m)
   unfolding xn-1
   cycle-below = below-add m (suc n) (term 1 n) (term (m - 1) 0) (term-below 1 n) (below-up 1 (suc n) (term (m - 1) 0) (omega arith) (term-below (m - 1) 0))
-
-  pub cycle-poly : Polynomial (xn-1 n m)
-  cycle-poly = record { bound = suc n; below = cycle-below }
 
   pub cycle-red : red m (xn-1 n m) ≡ xn-1 n m
   unfolding xn-1

@@ -122,10 +122,6 @@ module _ {n m : ℕ} (two : 1 < m) (some : 0 < n) {f : Series} {l : ℕ} {r₀ r
       opened : (z r M t : Series) → mul m z (add m r (mul m M t)) ≡ add m (mul m z r) (mul m M (mul m z t))
       opened z r M t = simp ring
 
-  -- It has n places.
-  pub inverse-below : (z : ℕ) → Below n (mul m (term z 0) s₀)
-  inverse-below z = Degrees.below-term m z 0 (n + 1 - l) n s₀ (w .short₀) (omega (arith, w .falling))
-
   -- ---- the shared factor
 
   pub shared : SharedFactor n m f (l - 1)

@@ -49,10 +49,6 @@ module _ (m : ℕ) where
   unfolding red add
   add-redˡ a b = fun-ext λ k. mod-add-mod (a k) m (b k)
 
-  pub add-redʳ : (a b : Series) → add m a (red m b) ≡ add m a b
-  unfolding red add
-  add-redʳ a b = fun-ext λ k. add-mod-mod (a k) (b k) m
-
   pub mul-comm : (a b : Series) → mul m a b ≡ mul m b a
   unfolding mul
   mul-comm a b = fun-ext λ k. ap (λ (x : ℕ). x % m) (times-comm a b k)

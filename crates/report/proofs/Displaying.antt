@@ -3,7 +3,7 @@
 use Prim.Native.Nat.{ℕ, _≤_, _<_}
 use mathlib.Core.Path.{_≡_, refl, sym, subst, _∙_, ap}
 use mathlib.Core.Bool.{Bool, true, false}
-use mathlib.Core.List.{List, [], _∷_, _++_, append-nil, append-assoc}
+use mathlib.Core.List.{List, [], _∷_, _++_, append-nil}
 use mathlib.Core.Option.{none, some}
 use native.Mathlib.Omega.{arith}
 use native.Mathlib.Nat.{le-of-dvd}
@@ -22,10 +22,9 @@ use Rattle.answer.specs.declared.Answer.the-variants.{Done, Singular, Refused}
 use Rattle.answer.proofs.Orders as orders
 use Rattle.answer.proofs.Passing.{order-passes}
 use Rattle.calls.specs.Contracts.{mix-order, Mixes}
-use Rattle.inverter.specs.Contracts.{invert-order, Inverts}
+use Rattle.inverter.specs.Contracts.{Inverts}
 use Rattle.inverter.specs.Counts.{Counts, Unmixed}
 use Rattle.inverter.specs.Smallest.{Smallest}
-use Rattle.inverter.specs.Ghost.{Ghost}
 use Rattle.inverter.proofs.Legal.{Granted, granted, invert-passes}
 use Rattle.inverter.proofs.Ghosts.{ghost-ring}
 use Rattle.inverter.proofs.Unmixing.{mixed-counts}
@@ -33,14 +32,11 @@ use Rattle.lines.specs.Items.{Item}
 use Rattle.lines.specs.Puts.{Puts, Room}
 use Rattle.lines.proofs.Putting.{puts-append, room-next}
 use Rattle.report.specs.Held.{Held, given}
-use Rattle.report.specs.Outcome.{Outcome, refused, singular, inverted, ring-2, held-order, Shown}
+use Rattle.report.specs.Outcome.{refused, singular, inverted, ring-2, held-order, Shown}
 use Rattle.report.specs.Page.{refusal-line, heading, inverse-line, singular-line, counts-line}
 use Rattle.report.specs.Report.{text-room, Displays}
 use Rattle.report.specs.Inner.{decoded, CountsReady, LegalText}
 use Rattle.report.proofs.Rooms.{inverse-room, ghost-room, counts-room}
-
-never : {r : Refusal} → check.Passed ≡ check.Refused r → ⊥
-never e = let z : _≡_ {A = ℕ} 0 1 = cc in omega arith
 
 -- Ring 2 where it is present.
 readings-ring : {n m : ℕ} {y : List ℕ} (present : Bool) → present ≡ true → orders.Rings n m (ring-2 (given present y)) → Ring n m y
@@ -51,7 +47,7 @@ readings-ring false e h = absurd (let z : _≡_ {A = ℕ} 0 1 = cc in omega arit
 pub mixed : {g y : List ℕ} {m : ℕ} {old new : List ℕ} (answer : Answer) → first (mix-order g y m (length old)) ≡ check.Passed → Mixes g y m old answer new → new ≡ mix (length g) m g y
 mixed Done passes k = k .meets .1
 mixed (Singular ring prime) passes k = absurd (k .meets .1)
-mixed (Refused r) passes k = absurd (never (sym passes ∙ k .meets .0))
+mixed (Refused r) passes k = absurd (orders.passed-refused passes (k .meets .0))
 
 -- A refusal is shown.
 pub displays-refusal : (h : Held) {r : Refusal} {found : Check} {old new : List ℕ} {end : ℕ} → found ≡ first (held-order h) → found ≡ check.Refused r → Puts (refusal-line r) 0 old new end → Displays (Shown h) h old new end
@@ -81,7 +77,7 @@ module _ (f y : List ℕ) (present : Bool) (m : ℕ) (ps es : List ℕ) (passes 
   positive = omega (arith, all .legal .low)
 
   pub not-refused : {old new : List ℕ} {r : Refusal} → length old ≡ length f → Inverts f m ps es old (Refused r) new → ⊥
-  not-refused {old} long i = never (sym (invert-passes f m ps es (length old) alone long) ∙ i .meets .0)
+  not-refused {old} long i = orders.passed-refused (invert-passes f m ps es (length old) alone long) (i .meets .0)
 
   -- ---- an inverse
 

@@ -1,10 +1,10 @@
 -- "at most 8,250 bytes (no valid sheet is longer than 8,247, and three more show why a longer one is refused)" (document 01): the text of the first 8,250
 -- bytes is the text of them all. A sheet that is accepted is no longer, and of one that is refused only the refusal is printed. Assumes nothing.
-use Prim.Native.Nat.{ℕ, _≤_}
-use mathlib.Core.Path.{_≡_, refl, sym, ap, subst, _∙_}
+use Prim.Native.Nat.{ℕ}
+use mathlib.Core.Path.{_≡_, refl, ap, subst, _∙_}
 use mathlib.Core.List.{List}
 use native.Mathlib.Omega.{arith}
-use lib.ListN.{length, take}
+use lib.ListN.{take}
 use lib.Seq.{take-all}
 use Rattle.answer.specs.declared.Check.{Check}
 use Rattle.answer.specs.declared.Check.the-variants.{Refused}

@@ -1,19 +1,19 @@
 -- One text for each sheet: whatever fits comes to the same outcome, which has one page, which is spelled in one way. There is one refusal, one inverse, one
 -- ring of counts, one smallest singular prime and one ghost, and never both an inverse and a singular prime. Assumes nothing.
-use Prim.Native.Nat.{ℕ, _≤_, _<_}
+use Prim.Native.Nat.{ℕ}
 use mathlib.Core.Path.{_≡_, refl, sym, ap, subst, _∙_}
 use mathlib.Core.List.{List, []}
 use mathlib.Core.Option.{Option, none, some}
 use native.Mathlib.Omega.{arith}
 use native.Mathlib.Decide.{decLe}
-use lib.ListN.{length, take}
-use lib.Seq.{take-all}
+use lib.ListN.{length}
 use Rattle.ring.specs.Inverse.{Inverse}
 use Rattle.ring.proofs.Inverses.{inverse-unique}
 use Rattle.answer.specs.Order.{first}
 use Rattle.answer.specs.declared.Check.{Check}
 use Rattle.answer.specs.declared.Check.the-variants.{Passed, Refused}
 use Rattle.answer.specs.declared.Refusal.{Refusal}
+use Rattle.answer.proofs.Orders.{passed-refused}
 use Rattle.inverter.specs.Smallest.{Smallest}
 use Rattle.inverter.specs.Ghost.{Ghost}
 use Rattle.inverter.proofs.Legal.{Granted, granted}
@@ -29,9 +29,6 @@ use Rattle.report.specs.Page.{page}
 use Rattle.report.specs.Report.{text-room, Displays, Reports}
 
 -- ---- one outcome
-
-passed-refused : {c : Check} {r : Refusal} → c ≡ Passed → c ≡ Refused r → ⊥
-passed-refused e d = let z : _≡_ {A = ℕ} 0 1 = cc in omega arith
 
 same-refusal : {c : Check} {r r′ : Refusal} → c ≡ Refused r → c ≡ Refused r′ → r ≡ r′
 same-refusal e d = cc

@@ -1,6 +1,6 @@
 -- From the bytes of a sheet to what it holds, and from its verdict to what comes of it. The decoded lists are the tables of the definitions, and the
 -- parts of a sheet are no longer than the rooms. Assumes nothing.
-use Prim.Native.Nat.{ℕ, _*_, _/_, _≤_, _<_}
+use Prim.Native.Nat.{ℕ, _≤_}
 use mathlib.Core.Path.{_≡_, refl, sym, ap, subst, _∙_}
 use mathlib.Core.Bool.{Bool, true, false}
 use mathlib.Core.List.{List}
@@ -9,17 +9,17 @@ use native.Mathlib.Decide.{decLe}
 use lib.ListN.{length, take, drop, length-take}
 use denote.Ref.{RefT, now}
 use Rattle.sums.specs.Table.{table}
-use Rattle.answer.specs.declared.Check.the-variants.{Passed, Refused}
+use Rattle.answer.specs.declared.Check.the-variants.{Refused}
 use Rattle.answer.specs.declared.Refusal.{Refusal}
 use Rattle.lines.specs.Puts.{Puts}
 use Rattle.lines.proofs.Putting.{puts-length}
-use Rattle.sheet.specs.Entries.{number-of, exponent-of, entries-of, primes-of, exponents-of}
-use Rattle.sheet.specs.Sheets.{sheet-of, bytes-of, IsPart}
+use Rattle.sheet.specs.Entries.{number-of, exponent-of}
+use Rattle.sheet.specs.Sheets.{sheet-of, IsPart}
 use Rattle.sheet.specs.declared.Part.{Part}
 use Rattle.sheet.specs.declared.Sheet.{Sheet}
 use Rattle.sheet.proofs.Table.{Sized, sheet-sized}
 use Rattle.report.specs.Held.{Held, held}
-use Rattle.report.specs.Outcome.{Outcome, refused, Shown, Comes}
+use Rattle.report.specs.Outcome.{refused, Shown, Comes}
 use Rattle.report.specs.Page.{refusal-line}
 use Rattle.report.specs.Report.{text-room, Displays, Reports}
 use Rattle.report.specs.Inner.{decoded, in-parts, Decodes, Parts, Accepted}

@@ -1,8 +1,8 @@
 -- A buffer of `text-room` bytes has room for every page: n is at most 1,024, each number of a ring has at most as many digits as the largest modulus, and
 -- a refusal has three numbers at most, of 64 bits. Assumes nothing.
 use Prim.Native.Nat.{ℕ, _+_, _*_, _^_, _≤_, _<_}
-use mathlib.Core.Path.{_≡_, _∙_}
-use mathlib.Core.List.{List, [], _∷_, _++_}
+use mathlib.Core.Path.{_≡_}
+use mathlib.Core.List.{List, _++_}
 use mathlib.Core.Option.{some}
 use native.Mathlib.Omega.{arith}
 use lib.ListN.{length}

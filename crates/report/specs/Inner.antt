@@ -15,9 +15,9 @@ use Rattle.sheet.specs.Sheets.{sheet-of}
 use Rattle.sheet.specs.Entries.{entries-of, primes-of, exponents-of}
 use Rattle.sheet.specs.declared.Sheet.{Sheet}
 use Rattle.report.specs.Held.{Held, given}
-use Rattle.report.specs.Outcome.{held-order}
+use Rattle.report.specs.Outcome.{held-order, Shown}
 use Rattle.report.specs.Page.{counts-line}
-use Rattle.report.specs.Report.{text-room}
+use Rattle.report.specs.Report.{text-room, Displays}
 
 -- What a sheet holds, as the code has it: decoded, and in parts.
 abbrev pub decoded : (f y : List ℕ) (present : Bool) (m : ℕ) (ps es : List ℕ) → Held
@@ -25,6 +25,10 @@ decoded f y present m ps es = record { modulus = m; primes = ps; exponents = es;
 
 abbrev pub in-parts : (factors pattern readings : List ℕ) (present : Bool) (m : ℕ) → Held
 in-parts factors pattern readings present m = decoded (entries-of pattern) (entries-of readings) present m (primes-of factors) (exponents-of factors)
+
+-- The page of what is shown of a sheet that holds h stands in the buffer.
+abbrev pub ShowsHeld : Held → (old new : List ℕ) (end : ℕ) → Type 0
+ShowsHeld h old new end = Displays (Shown h) h old new end
 
 -- Rings that may be mixed, with room for the line of counts.
 pub record CountsReady (g y : List ℕ) (m : ℕ) (counts : List ℕ) (o : ℕ) (text : List ℕ) : Type 0 where

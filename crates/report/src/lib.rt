@@ -35,10 +35,10 @@ ghost use Rattle.lines.specs.Lines.{after};
 ghost use Rattle.lines.specs.Puts.{Room, Puts};
 ghost use Rattle.sheet.specs.Sheets.{sheet-of};
 ghost use Rattle.report.specs.Held.{held};
-ghost use Rattle.report.specs.Outcome.{held-order, Shown, Comes};
+ghost use Rattle.report.specs.Outcome.{held-order, Comes};
 ghost use Rattle.report.specs.Page.{told-items, refused-line, refusal-line, heading, inverse-line, singular-line, counts-line};
 ghost use Rattle.report.specs.Report.{text-room, Displays, Reports};
-ghost use Rattle.report.specs.Inner.{decoded, in-parts, CountsReady, Legal, LegalWith, LegalText, Decodes, Parts, PartsWith, Read, Accepted};
+ghost use Rattle.report.specs.Inner.{decoded, in-parts, ShowsHeld, CountsReady, Legal, LegalWith, LegalText, Decodes, Parts, PartsWith, Read, Accepted};
 
 // Room for every text: two rings with a blank before each entry, and the words.
 pub const TEXT_ROOM: usize = 2 * MOST_ENTRIES * (1 + MOST_DIGITS) + 128;
@@ -143,7 +143,7 @@ fn report_in(
     text: &mut [u8],
 ) -> usize
     requires { ⌜ Legal (decoded (now f) (now y) present m (now primes) (now exponents)) (now inverse) (now counts) (now text) ⌝ }
-    ensures { λ r. ⌜ (let h = decoded (now (f .entry)) (now (y .entry)) present m (now (primes .entry)) (now (exponents .entry)) in Displays (Shown h) h (now (text .entry)) (now (text .exit)) r) ⌝ }
+    ensures { λ r. ⌜ ShowsHeld (decoded (now (f .entry)) (now (y .entry)) present m (now (primes .entry)) (now (exponents .entry))) (now (text .entry)) (now (text .exit)) r ⌝ }
 {
     let n = as_number(f.len());
     let modulus = wide(m);
@@ -172,7 +172,7 @@ fn report_with(
     text: &mut [u8],
 ) -> usize
     requires { ⌜ LegalWith (decoded (now f) (now y) present m (now primes) (now exponents)) (now inverse) (now counts) (now text) ⌝ }
-    ensures { λ r. ⌜ (let h = decoded (now (f .entry)) (now (y .entry)) present m (now (primes .entry)) (now (exponents .entry)) in Displays (Shown h) h (now (text .entry)) (now (text .exit)) r) ⌝ }
+    ensures { λ r. ⌜ ShowsHeld (decoded (now (f .entry)) (now (y .entry)) present m (now (primes .entry)) (now (exponents .entry))) (now (text .entry)) (now (text .exit)) r ⌝ }
 {
     let n = f.len();
     report_in(
@@ -198,7 +198,7 @@ fn report_legal(
     text: &mut [u8],
 ) -> usize
     requires { ⌜ LegalText (decoded (now f) (now y) present m (now primes) (now exponents)) (now text) ⌝ }
-    ensures { λ r. ⌜ (let h = decoded (now (f .entry)) (now (y .entry)) present m (now (primes .entry)) (now (exponents .entry)) in Displays (Shown h) h (now (text .entry)) (now (text .exit)) r) ⌝ }
+    ensures { λ r. ⌜ ShowsHeld (decoded (now (f .entry)) (now (y .entry)) present m (now (primes .entry)) (now (exponents .entry))) (now (text .entry)) (now (text .exit)) r ⌝ }
 {
     let mut inverse = [0u32; MOST_ENTRIES];
     let mut counts = [0u32; MOST_ENTRIES];
@@ -243,7 +243,7 @@ fn report_rings(
     text: &mut [u8],
 ) -> usize
     requires { ⌜ text-room ≤ length (now text) ⌝ }
-    ensures { λ r. ⌜ (let h = decoded (now (f .entry)) (now (y .entry)) present m (now (primes .entry)) (now (exponents .entry)) in Displays (Shown h) h (now (text .entry)) (now (text .exit)) r) ⌝ }
+    ensures { λ r. ⌜ ShowsHeld (decoded (now (f .entry)) (now (y .entry)) present m (now (primes .entry)) (now (exponents .entry))) (now (text .entry)) (now (text .exit)) r ⌝ }
 {
     match check_held(f, y, present, m, primes, exponents) {
         Check::Passed => report_legal(f, y, present, m, primes, exponents, text),
@@ -265,7 +265,7 @@ fn report_decoded(
     text: &mut [u8],
 ) -> usize
     requires { ⌜ Decodes (now factors) (now pattern) (now readings) (now primes) (now exponents) (now f) (now y) (now text) ⌝ }
-    ensures { λ r. ⌜ (let h = in-parts (now (factors .entry)) (now (pattern .entry)) (now (readings .entry)) present m in Displays (Shown h) h (now (text .entry)) (now (text .exit)) r) ⌝ }
+    ensures { λ r. ⌜ ShowsHeld (in-parts (now (factors .entry)) (now (pattern .entry)) (now (readings .entry)) present m) (now (text .entry)) (now (text .exit)) r ⌝ }
 {
     numbers_of(factors, 5, primes);
     exponents_of(factors, exponents);
@@ -287,7 +287,7 @@ fn report_parts_with(
     text: &mut [u8],
 ) -> usize
     requires { ⌜ PartsWith (now factors) (now pattern) (now readings) (now primes) (now exponents) (now f) (now y) (now text) ⌝ }
-    ensures { λ r. ⌜ (let h = in-parts (now (factors .entry)) (now (pattern .entry)) (now (readings .entry)) present m in Displays (Shown h) h (now (text .entry)) (now (text .exit)) r) ⌝ }
+    ensures { λ r. ⌜ ShowsHeld (in-parts (now (factors .entry)) (now (pattern .entry)) (now (readings .entry)) present m) (now (text .entry)) (now (text .exit)) r ⌝ }
 {
     let listed = factors.len() / 5;
     let n = pattern.len() / 4;
@@ -315,7 +315,7 @@ fn report_parts(
     text: &mut [u8],
 ) -> usize
     requires { ⌜ Parts (now factors) (now pattern) (now readings) (now text) ⌝ }
-    ensures { λ r. ⌜ (let h = in-parts (now (factors .entry)) (now (pattern .entry)) (now (readings .entry)) present m in Displays (Shown h) h (now (text .entry)) (now (text .exit)) r) ⌝ }
+    ensures { λ r. ⌜ ShowsHeld (in-parts (now (factors .entry)) (now (pattern .entry)) (now (readings .entry)) present m) (now (text .entry)) (now (text .exit)) r ⌝ }
 {
     let mut primes = [0u32; MOST_FACTORS];
     let mut exponents = [0u8; MOST_FACTORS];

@@ -6,7 +6,6 @@ use Rattle.limits.specs.Limits.{most-entries, least-modulus, most-modulus}
 use Rattle.answer.specs.Checks.{empty, large, mismatch, modulus}
 use Rattle.answer.specs.Order.{or}
 use Rattle.answer.proofs.Orders.{or-go-on, or-stop, order-four}
-use native.Mathlib.Omega.{arith}
 use borrow.Author.Needs.{needs}
 use Rattle.answer.proofs.check_four_rings.Statement.{statement}
 use Rattle.answer.proofs.check_four_rings.Tie as tie

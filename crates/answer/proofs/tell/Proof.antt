@@ -1,5 +1,5 @@
 -- `answer::tell` meets its contract: each arm is a line of the definition. Assumes nothing.
-use mathlib.Core.Path.{_≡_, _∙_, ap, sym}
+use mathlib.Core.Path.{_∙_, ap, sym}
 use Rattle.answer.specs.Reply.{tell-values}
 use Rattle.answer.specs.declared.Told.{Told}
 use borrow.Author.Needs.{needs}

@@ -2,7 +2,6 @@
 use mathlib.Core.Path.{sym, ap, _∙_}
 use Rattle.answer.specs.declared.Reply.{Reply}
 use Rattle.capi.specs.Judgement.{judgement, verdict-judgement}
-use native.Mathlib.Omega.{arith}
 use borrow.Author.Needs.{needs}
 use Rattle.capi.proofs.judgement_of.Statement.{statement}
 use Rattle.capi.proofs.judgement_of.Tie as tie

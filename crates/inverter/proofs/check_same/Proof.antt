@@ -1,5 +1,4 @@
 -- `inverter::check_same` meets its contract: the order of same feeding is that of four rings. Assumes nothing.
-use native.Mathlib.Omega.{arith}
 use borrow.Author.Needs.{needs}
 use Rattle.inverter.proofs.check_same.Statement.{statement}
 use Rattle.inverter.proofs.check_same.Tie as tie

@@ -1,7 +1,6 @@
 -- `inverter::same_feeding` meets its contract: what its check finds decides, and where it finds nothing the comparison does. Assumes nothing.
 use mathlib.Core.Path.{sym, _∙_}
 use Rattle.inverter.proofs.Judging.{same-ready, judged-feeding}
-use native.Mathlib.Omega.{arith}
 use borrow.Author.Needs.{needs}
 use Rattle.inverter.proofs.same_feeding.Statement.{statement}
 use Rattle.inverter.proofs.same_feeding.Tie as tie

@@ -1,7 +1,6 @@
 -- `inverter::same_in` meets its contract: the first singular side decides, and else the comparison of the counts. Assumes nothing.
 use mathlib.Core.Path.{sym, _∙_}
 use Rattle.inverter.proofs.Judging.{first-unmixable, second-unmixable, first-dark, second-dark, judged-yes, judged-no}
-use native.Mathlib.Omega.{arith}
 use borrow.Author.Needs.{needs}
 use Rattle.inverter.proofs.same_in.Statement.{statement}
 use Rattle.inverter.proofs.same_in.Tie as tie

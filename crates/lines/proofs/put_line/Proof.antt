@@ -1,6 +1,6 @@
 -- `lines::put_line` meets its contract: the name, the entries and the line's end, one after the other. Assumes nothing.
 use mathlib.Core.List.{[], _∷_, _++_}
-use Rattle.lines.specs.Items.{word, number, numbers, text}
+use Rattle.lines.specs.Items.{word, number, numbers}
 use Rattle.lines.specs.Lines.{after, newline}
 use Rattle.lines.proofs.Putting.{room-first, room-next, puts-append}
 use borrow.Author.Needs.{needs}

@@ -1,7 +1,7 @@
 -- `lines::put_named` meets its contract: a blank, the name, and the number after a blank, one after the other. Assumes nothing.
 use mathlib.Core.List.{[], _∷_, _++_}
-use Rattle.lines.specs.Items.{word, number, numbers, text}
-use Rattle.lines.specs.Lines.{after, newline}
+use Rattle.lines.specs.Items.{word, number, text}
+use Rattle.lines.specs.Lines.{after}
 use Rattle.lines.proofs.Putting.{room-first, room-next, puts-append}
 use borrow.Author.Needs.{needs}
 use Rattle.lines.proofs.put_named.Statement.{statement}

@@ -8,7 +8,6 @@ use Rattle.answer.specs.Order.{first, order}
 use Rattle.answer.specs.declared.Check.{Check}
 use Rattle.report.specs.Outcome.{held-order}
 use Rattle.report.specs.Inner.{decoded}
-use native.Mathlib.Omega.{arith}
 use borrow.Author.Needs.{needs}
 use Rattle.report.proofs.check_held.Statement.{statement}
 use Rattle.report.proofs.check_held.Tie as tie

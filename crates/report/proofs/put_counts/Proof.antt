@@ -1,12 +1,11 @@
 -- `report::put_counts` meets its contract: the mix is done, and its line is put. Assumes nothing.
 use Prim.Native.Nat.{ℕ}
-use mathlib.Core.Path.{_≡_, sym, subst}
+use mathlib.Core.Path.{sym, subst}
 use mathlib.Core.List.{List}
 use mathlib.Core.Option.{some}
 use Rattle.lines.specs.Puts.{Room, Puts}
 use Rattle.report.specs.Page.{counts-line}
 use Rattle.report.proofs.Displaying.{mixed}
-use native.Mathlib.Omega.{arith}
 use borrow.Author.Needs.{needs}
 use Rattle.report.proofs.put_counts.Statement.{statement}
 use Rattle.report.proofs.put_counts.Tie as tie

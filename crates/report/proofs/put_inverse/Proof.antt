@@ -1,7 +1,5 @@
 -- `report::put_inverse` meets its contract: the heading and the line, one after the other. Assumes nothing.
-use mathlib.Core.List.{[], _∷_, _++_}
-use Rattle.lines.specs.Items.{word, number, numbers, text}
-use Rattle.lines.specs.Lines.{after, newline}
+use Rattle.lines.specs.Lines.{after}
 use Rattle.lines.proofs.Putting.{room-first, room-next, puts-append}
 use Rattle.report.specs.Page.{heading, inverse-line}
 use borrow.Author.Needs.{needs}

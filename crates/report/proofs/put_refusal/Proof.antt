@@ -1,13 +1,12 @@
 -- `report::put_refusal` meets its contract: the row of the case says what is put. Assumes nothing.
 use Prim.Native.Nat.{ℕ}
-use mathlib.Core.Path.{_≡_, subst}
+use mathlib.Core.Path.{_≡_}
 use mathlib.Core.List.{List}
 use Rattle.answer.specs.Numbers.{refusal-row}
 use Rattle.answer.specs.declared.Refusal.{Refusal}
 use Rattle.answer.specs.declared.Row.{Row}
 use Rattle.lines.specs.Puts.{Puts}
 use Rattle.report.specs.Page.{refused-line, refusal-line}
-use native.Mathlib.Omega.{arith}
 use borrow.Author.Needs.{needs}
 use Rattle.report.proofs.put_refusal.Statement.{statement}
 use Rattle.report.proofs.put_refusal.Tie as tie

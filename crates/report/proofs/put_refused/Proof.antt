@@ -1,6 +1,6 @@
 -- `report::put_refused` meets its contract: its four pieces, one after the other. Assumes nothing.
 use mathlib.Core.List.{[], _∷_, _++_}
-use Rattle.lines.specs.Items.{word, number, numbers, text}
+use Rattle.lines.specs.Items.{word, number, text}
 use Rattle.lines.specs.Lines.{after, newline}
 use Rattle.lines.proofs.Putting.{room-first, room-next, puts-append}
 use Rattle.report.specs.Page.{told-items}

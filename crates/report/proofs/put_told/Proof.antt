@@ -1,7 +1,7 @@
 -- `report::put_told` meets its contract: each arm puts the items of its case. Assumes nothing.
 use Prim.Native.Nat.{ℕ}
 use mathlib.Core.Path.{_≡_, sym, subst}
-use mathlib.Core.List.{List, [], _∷_, _++_}
+use mathlib.Core.List.{List, [], _∷_}
 use Rattle.answer.specs.declared.Told.{Told}
 use Rattle.answer.specs.declared.Told.the-variants.{Nothing, Ring, RingAndPlace, RingAndPrime, Place}
 use Rattle.lines.specs.Items.{number, text}
@@ -9,7 +9,6 @@ use Rattle.lines.specs.Lines.{after}
 use Rattle.lines.specs.Puts.{Room, Puts}
 use Rattle.lines.proofs.Putting.{puts-nothing, puts-append, room-first, room-next}
 use Rattle.report.specs.Page.{told-items}
-use native.Mathlib.Omega.{arith}
 use borrow.Author.Needs.{needs}
 use Rattle.report.proofs.put_told.Statement.{statement}
 use Rattle.report.proofs.put_told.Tie as tie

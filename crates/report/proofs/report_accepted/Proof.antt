@@ -1,6 +1,5 @@
 -- `report::report_accepted` meets its contract: the parts are those of the sheet, and hold what it holds. Assumes nothing.
 use Rattle.report.proofs.Reading.{parts-short, displays-accepted}
-use native.Mathlib.Omega.{arith}
 use borrow.Author.Needs.{needs}
 use Rattle.report.proofs.report_accepted.Statement.{statement}
 use Rattle.report.proofs.report_accepted.Tie as tie

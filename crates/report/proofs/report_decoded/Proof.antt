@@ -1,6 +1,5 @@
 -- `report::report_decoded` meets its contract: what is decoded is what the parts hold. Assumes nothing.
 use Rattle.report.proofs.Reading.{displays-parts}
-use native.Mathlib.Omega.{arith}
 use borrow.Author.Needs.{needs}
 use Rattle.report.proofs.report_decoded.Statement.{statement}
 use Rattle.report.proofs.report_decoded.Tie as tie

@@ -1,6 +1,5 @@
 -- `report::report_in` meets its contract: what a legal sheet comes to, by the answer of invert (proofs/Displaying). Assumes nothing.
 use Rattle.report.proofs.Displaying.{known, not-refused, inverse-fits, displays-inverse, counts-ready, displays-counts, ghost-fits, displays-ghost}
-use native.Mathlib.Omega.{arith}
 use borrow.Author.Needs.{needs}
 use Rattle.report.proofs.report_in.Statement.{statement}
 use Rattle.report.proofs.report_in.Tie as tie

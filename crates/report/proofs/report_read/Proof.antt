@@ -1,6 +1,5 @@
 -- `report::report_read` meets its contract: the sheet's verdict decides. Assumes nothing.
 use Rattle.report.proofs.Reading.{displays-refused}
-use native.Mathlib.Omega.{arith}
 use borrow.Author.Needs.{needs}
 use Rattle.report.proofs.report_read.Statement.{statement}
 use Rattle.report.proofs.report_read.Tie as tie

@@ -1,7 +1,6 @@
 -- `report::report_rings` meets its contract: a sheet that is refused shows the refusal, and any other is legal. Assumes nothing.
 use Rattle.report.specs.Inner.{decoded}
 use Rattle.report.proofs.Displaying.{displays-refusal, legal-text}
-use native.Mathlib.Omega.{arith}
 use borrow.Author.Needs.{needs}
 use Rattle.report.proofs.report_rings.Statement.{statement}
 use Rattle.report.proofs.report_rings.Tie as tie
