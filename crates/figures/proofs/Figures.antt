@@ -1,5 +1,5 @@
--- Every P line of document 01 holds: each kind of line can be decided by computation, and the decision of the whole table is computed once.
--- Assumes nothing.
+-- Every P line of document 01 holds, and none of the wrong lines: each kind of line can be shown or rejected by computation, and that of a whole table
+-- is computed once. Assumes nothing.
 use Prim.Native.Nat.{ℕ, zero, suc, _*_, _/_, _%_, _<_, _∣_}
 use mathlib.Core.Path.{_≡_, refl, subst}
 use mathlib.Core.List.{List, [], _∷_}
@@ -28,7 +28,8 @@ use Rattle.answer.specs.Factors.{factors}
 use Rattle.inverter.specs.Contracts.{invert-order}
 use Rattle.inverter.proofs.OnePrime.{zero-singular}
 use Rattle.inverter.proofs.Legal.{Granted, granted, invert-passes}
-use Rattle.figures.specs.Figures.{Line, inverse, ghost, mixed, folded, AllSingular, Says, All, lines}
+use Rattle.inverter.proofs.Demand2.{invert-ghost}
+use Rattle.figures.specs.Figures.{Line, inverse, ghost, mixed, folded, AllSingular, Says, Rejected, All, lines, wrong-lines}
 use Rattle.figures.proofs.Search.{same?, implies?, below?, ring?, clear?, clear-singular, unclear-singular, clear-least}
 
 infixl 1 _>>=_
@@ -148,18 +149,64 @@ says? (ghost m ps es f p out also) =
 says? (mixed m a b c) = if-yes (same? (mix (length a) m a b) c)
 says? (folded m a c) = if-yes (same? (fold (length a) (length c) m a) c)
 
-unfoldable all? : (ls : List Line) → Option (All ls)
-unfolding says?
-all? [] = some tt
-all? (l ∷ ls) = do
-  h ← says? l
-  k ← all? ls
+-- ---- the wrong lines
+
+abbrev or-else : {A : Type 0} → Option A → Option A → Option A
+or-else (some a) b = some a
+or-else none b = b
+
+-- A prime of m that stands in the list, is below p and singular.
+unfoldable smaller? : (m : ℕ) (f : List ℕ) → 0 < length f → (ps : List ℕ) (p : ℕ) → Option ((q : ℕ) × Prime q × (q ∣ m) × (q < p) × Singular (length f) q f)
+unfolding prime? clear? decLt ℕ-discrete
+smaller? m f n1 [] p = none
+smaller? m f n1 (q ∷ ps) p = or-else here (smaller? m f n1 ps p)
+  where
+    here : Option ((q : ℕ) × Prime q × (q ∣ m) × (q < p) × Singular (length f) q f)
+    here = do
+      prime ← if-yes (prime? q)
+      divides ← if-yes (ℕ-discrete (m % q) 0)
+      less ← if-yes (decLt q p)
+      c ← if-no (clear? (length f) q f (length f))
+      some (q, prime, dvd-of-mod-eq-zero q divides, less, unclear-singular (length f) q prime n1 f refl c)
+
+-- Its product is not 1; a smaller prime is singular, or its readings are not zero; the ring is another one.
+unfoldable rejected? : (l : Line) → Option (Rejected l)
+unfolding smaller? same? decLt mix fold one zeros table sum
+rejected? (inverse m ps es f g) = do
+  n ← if-no (same? (mix (length f) m f g) (one (length f) m))
+  some (λ old h. n (h .meets .1 .product))
+rejected? (ghost m ps es f p out also) = or-else first-prime heard
+  where
+    first-prime : Option (Rejected (ghost m ps es f p out also))
+    first-prime = do
+      n1 ← if-yes (decLt 0 (length f))
+      q ← smaller? m f n1 ps p
+      some (λ old h. h .meets .1 .smallest .least (q .0) (q .1) (q .2) (q .3) (q .4))
+
+    heard : Option (Rejected (ghost m ps es f p out also))
+    heard = do
+      n ← if-no (same? (mix (length f) m f out) (zeros (length f)))
+      some (λ old h. n (invert-ghost f m ps es old 1 p out h .silent))
+rejected? (mixed m a b c) = if-no (same? (mix (length a) m a b) c)
+rejected? (folded m a c) = if-no (same? (fold (length a) (length c) m a) c)
+
+-- ---- the tables
+
+unfoldable all? : (P : Line → Type 0) → ((l : Line) → Option (P l)) → (ls : List Line) → Option (All P ls)
+all? P d [] = some tt
+all? P d (l ∷ ls) = do
+  h ← d l
+  k ← all? P d ls
   some (h, k)
 
 shown : {A : Type 0} (o : Option A) → IsSome o → A
 shown (some a) t = a
 shown none t = absurd t
 
-pub figures : All lines
-unfolding all?
-figures = shown (all? lines) tt
+pub figures : All Says lines
+unfolding all? says?
+figures = shown (all? Says says? lines) tt
+
+pub rejected-figures : All Rejected wrong-lines
+unfolding all? rejected?
+rejected-figures = shown (all? Rejected rejected? wrong-lines) tt

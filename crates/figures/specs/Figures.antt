@@ -1,5 +1,6 @@
 -- Document 01, "Figures to try it on": the lines marked P, as one table, and what each kind of line says. That all of them hold is the theorem
--- `figures` in proofs/Figures.antt.
+-- `figures` in proofs/Figures.antt. Beside them lines that a wrong program would give, and what it is that one is rejected: all of them are, by
+-- `rejected-figures`.
 use Prim.Native.Nat.{ℕ}
 use mathlib.Core.Path.{_≡_}
 use mathlib.Core.List.{List, [], _∷_}
@@ -30,9 +31,16 @@ Says (ghost m ps es f p out also) = ((old : List ℕ) → length old ≡ length 
 Says (mixed m a b c) = mix (length a) m a b ≡ c
 Says (folded m a c) = fold (length a) (length c) m a ≡ c
 
-abbrev pub All : List Line → Type 0
-All [] = Unit {0}
-All (l ∷ ls) = Says l × All ls
+-- Of an answer that is wrong: it fits in no call, whatever output was lent.
+abbrev pub Rejected : Line → Type 0
+Rejected (inverse m ps es f g) = (old : List ℕ) → ¬ Inverts f m ps es old answer.Done g
+Rejected (ghost m ps es f p out also) = (old : List ℕ) → ¬ Inverts f m ps es old (answer.Singular 1 p) out
+Rejected (mixed m a b c) = ¬ (mix (length a) m a b ≡ c)
+Rejected (folded m a c) = ¬ (fold (length a) (length c) m a ≡ c)
+
+abbrev pub All : (Line → Type 0) → List Line → Type 0
+All P [] = Unit {0}
+All P (l ∷ ls) = P l × All P ls
 
 abbrev pub lines : List Line
 lines =
@@ -49,4 +57,17 @@ lines =
     ∷ ghost 1000 (2 ∷ 5 ∷ []) (3 ∷ 3 ∷ []) (0 ∷ []) 2 (500 ∷ []) []
     ∷ mixed 10 (1 ∷ 2 ∷ 0 ∷ []) (1 ∷ 0 ∷ 5 ∷ []) (1 ∷ 2 ∷ 5 ∷ [])
     ∷ folded 10 (1 ∷ 2 ∷ 3 ∷ 4 ∷ []) (4 ∷ 6 ∷ [])
+    ∷ []
+
+-- Invert: the pattern handed back as its own inverse; one lifting round too few; an output that came as zeros and was left alone; the larger singular
+-- prime with its own ghost; a ghost without the factor m/p. Mix: the matrix applied to a column. Fold: one part forgotten.
+abbrev pub wrong-lines : List Line
+wrong-lines =
+    inverse 8 (2 ∷ []) (3 ∷ []) (1 ∷ 2 ∷ []) (1 ∷ 2 ∷ [])
+    ∷ inverse 8 (2 ∷ []) (3 ∷ []) (1 ∷ 2 ∷ []) (1 ∷ 6 ∷ [])
+    ∷ inverse 8 (2 ∷ []) (3 ∷ []) (1 ∷ 2 ∷ []) (0 ∷ 0 ∷ [])
+    ∷ ghost 10 (2 ∷ 5 ∷ []) (1 ∷ 1 ∷ []) (1 ∷ 1 ∷ []) 5 (8 ∷ 2 ∷ []) []
+    ∷ ghost 10 (2 ∷ 5 ∷ []) (1 ∷ 1 ∷ []) (1 ∷ 1 ∷ []) 2 (1 ∷ 1 ∷ []) []
+    ∷ mixed 10 (1 ∷ 2 ∷ 0 ∷ []) (1 ∷ 0 ∷ 5 ∷ []) (1 ∷ 0 ∷ 7 ∷ [])
+    ∷ folded 10 (1 ∷ 2 ∷ 3 ∷ 4 ∷ []) (3 ∷ 4 ∷ [])
     ∷ []
