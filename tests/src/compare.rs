@@ -2,15 +2,15 @@
 
 use crate::calls::Call;
 use crate::case::{Answer, Case};
-use crate::door::Number;
 use crate::figures::Figure;
 use crate::lent::Loan;
+use crate::numbers::Number;
 use crate::random::Random;
 use crate::refusals;
 
 /// Compares one case. Hands back the numbers of all refusals that apply, the one given first.
 pub fn case(call: &Call, case: &Case, random: &mut Random) -> Result<Vec<Number>, String> {
-    let refusals = refusals::all(call.order, case);
+    let refusals = refusals::all(call.gives, case);
     let (expected, singular) = match refusals.first() {
         Some(&(_, reply)) => (Answer::refused(reply, case), refusals::singular_too(call, case)),
         None => {

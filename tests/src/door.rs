@@ -25,28 +25,3 @@ impl From<Reply> for Verdict {
         Verdict { reply, same: 0 }
     }
 }
-
-#[derive(Clone, Copy, Debug, PartialEq, Eq)]
-pub enum Number {
-    Empty = 1,
-    Large = 2,
-    Mismatch = 3,
-    Modulus = 4,
-    Factors = 5,
-    Coefficient = 6,
-    Room = 7,
-    Divisor = 8,
-    Singular = 9,
-}
-
-/// SINGULAR, with what it tells.
-pub fn singular(ring: usize, prime: u32) -> Reply {
-    Reply { number: Number::Singular as u32, prime, ring, place: 0 }
-}
-
-impl Number {
-    /// The refusal with this number that tells nothing besides.
-    pub fn bare(self) -> Reply {
-        Reply { number: self as u32, ..DONE }
-    }
-}

@@ -2,15 +2,15 @@
 
 use crate::calls::Call;
 use crate::case::Case;
-use crate::door::Number;
 use crate::factors::{self, List};
+use crate::numbers::Number;
 use crate::patterns;
 use crate::random::Random;
 
 /// Every set of one, two or three faults that one case of the call can have.
 pub fn fault_sets(call: &Call) -> Vec<Vec<Number>> {
     let mut sets = vec![vec![]];
-    for &number in call.order {
+    for number in call.order() {
         for index in 0..sets.len() {
             let set = &sets[index];
             if set.len() < 3 && set.iter().all(|&earlier| call.can_meet(earlier, number)) {

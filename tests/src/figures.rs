@@ -1,7 +1,8 @@
 //! Document 01's figures: cases whose answer is written down.
 
 use crate::case::Case;
-use crate::door::{Number::*, Reply, Verdict, DONE};
+use crate::door::{Reply, Verdict, DONE};
+use crate::numbers::Number::*;
 use crate::patterns::ones;
 
 /// A case, its answer, and where it is written down the output's content.

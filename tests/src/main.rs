@@ -12,6 +12,7 @@ mod factors;
 mod figures;
 mod large;
 mod lent;
+mod numbers;
 mod parts;
 mod patterns;
 mod primes;

@@ -3,11 +3,12 @@
 use crate::calls::Call;
 use crate::case::Case;
 use crate::circulant;
-use crate::door::{Number, Reply, DONE};
+use crate::door::Reply;
 use crate::factors::List;
+use crate::numbers::{in_order, Number};
 
 /// The refusal with this number, if it applies to the case. SINGULAR is the business of the call's
-/// answer.
+/// answer, and a sheet's refusals are that of its fields.
 fn examine(number: Number, case: &Case) -> Option<Reply> {
     match number {
         Number::Empty => bare(number, case.n() == 0),
@@ -18,14 +19,14 @@ fn examine(number: Number, case: &Case) -> Option<Reply> {
         Number::Coefficient => coefficient(case),
         Number::Room => bare(number, case.out.len() != case.n()),
         Number::Divisor => bare(number, !divides(case)),
-        Number::Singular => None,
+        _ => None,
     }
 }
 
-/// Every refusal but SINGULAR that applies, in the order given.
-pub fn all(order: &[Number], case: &Case) -> Vec<(Number, Reply)> {
-    let applies = |&number| examine(number, case).map(|reply| (number, reply));
-    order.iter().filter_map(applies).collect()
+/// Every refusal but SINGULAR that applies, of those that are given, in the order of document 01.
+pub fn all(gives: &[Number], case: &Case) -> Vec<(Number, Reply)> {
+    let applies = |number| examine(number, case).map(|reply| (number, reply));
+    in_order(gives).filter_map(applies).collect()
 }
 
 /// Whether besides a refusal a pattern is singular, as far as that can be said and is soon seen.
@@ -45,14 +46,13 @@ fn bare(number: Number, applies: bool) -> Option<Reply> {
 
 fn mismatch(case: &Case) -> Option<Reply> {
     let index = case.rings.iter().position(|ring| ring.len() != case.n())?;
-    Some(Reply { number: Number::Mismatch as u32, ring: index + 1, ..DONE })
+    Some(Number::Mismatch.reply(index + 1, 0, 0))
 }
 
 fn coefficient(case: &Case) -> Option<Reply> {
     for (index, ring) in case.rings.iter().enumerate() {
         if let Some(place) = ring.iter().position(|&entry| entry >= case.m) {
-            let number = Number::Coefficient as u32;
-            return Some(Reply { number, ring: index + 1, place, ..DONE });
+            return Some(Number::Coefficient.reply(index + 1, place, 0));
         }
     }
     None

@@ -1,16 +1,17 @@
 use super::Call;
 use crate::case::{Answer, Case};
 use crate::circulant;
-use crate::door::{singular, Number::*, Reply, Verdict, DONE};
+use crate::door::{Reply, Verdict, DONE};
 use crate::draw;
 use crate::factors::List;
 use crate::figures::{limits, worked, Figure};
 use crate::lent::Loan;
+use crate::numbers::{singular, Number::*};
 
 pub const CALL: Call = Call {
     name: "invert",
     rings: 1,
-    order: &[Empty, Large, Modulus, Factors, Coefficient, Room, Singular],
+    gives: &[Empty, Large, Modulus, Factors, Coefficient, Room, Singular],
     patterns: &[0],
     complete: draw::output,
     ask,

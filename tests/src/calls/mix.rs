@@ -1,14 +1,15 @@
 use super::Call;
 use crate::case::{Answer, Case};
-use crate::door::{Number::*, Reply, Verdict};
+use crate::door::{Reply, Verdict};
 use crate::draw;
 use crate::figures::{limits, worked, Figure};
 use crate::lent::Loan;
+use crate::numbers::Number::*;
 
 pub const CALL: Call = Call {
     name: "mix",
     rings: 2,
-    order: &[Empty, Large, Mismatch, Modulus, Coefficient, Room],
+    gives: &[Empty, Large, Mismatch, Modulus, Coefficient, Room],
     patterns: &[],
     complete: draw::output,
     ask,

@@ -1,9 +1,10 @@
 //! The calls. A new call is a new module with a `CALL`, and a line in `ALL`.
 
 use crate::case::{Answer, Case};
-use crate::door::{Number, Verdict};
+use crate::door::Verdict;
 use crate::figures::Figure;
 use crate::lent::Loan;
+use crate::numbers::{in_order, Number};
 use crate::random::Random;
 
 mod fold;
@@ -18,8 +19,8 @@ pub struct Call {
     pub rings: usize,
     /// Which of the rings are patterns to be inverted. A call that has some has a factor list.
     pub patterns: &'static [usize],
-    /// Its refusals, in the order of document 01.
-    pub order: &'static [Number],
+    /// Its refusals, in any order.
+    pub gives: &'static [Number],
     /// Draws what lies beyond rings and modulus, with the faults asked for.
     pub complete: fn(&mut Case, &[Number], &mut Random),
     /// Asks the C door.
@@ -30,6 +31,11 @@ pub struct Call {
 }
 
 impl Call {
+    /// Its refusals, in the order of document 01.
+    pub fn order(&self) -> impl Iterator<Item = Number> {
+        in_order(self.gives)
+    }
+
     /// Whether one case can have both faults, `first` standing before `second` in the order.
     pub fn can_meet(&self, first: Number, second: Number) -> bool {
         match (first, second) {

@@ -1,15 +1,16 @@
 use super::Call;
 use crate::case::{Answer, Case};
-use crate::door::{Number, Number::*, Reply, Verdict};
+use crate::door::{Reply, Verdict};
 use crate::draw;
 use crate::figures::{limits, worked, Figure};
 use crate::lent::Loan;
+use crate::numbers::{Number, Number::*};
 use crate::random::Random;
 
 pub const CALL: Call = Call {
     name: "reduce",
     rings: 1,
-    order: &[Empty, Large, Modulus, Coefficient, Room, Divisor],
+    gives: &[Empty, Large, Modulus, Coefficient, Room, Divisor],
     patterns: &[],
     complete,
     ask,

@@ -2,16 +2,17 @@ use super::mix::product;
 use super::Call;
 use crate::case::{Answer, Case};
 use crate::circulant::{counts, ghost};
-use crate::door::{singular, Number, Number::*, Verdict, DONE};
+use crate::door::{Verdict, DONE};
 use crate::factors::List;
 use crate::figures::{limits, Figure};
 use crate::lent::Loan;
+use crate::numbers::{singular, Number, Number::*};
 use crate::random::Random;
 
 pub const CALL: Call = Call {
     name: "same feeding",
     rings: 4,
-    order: &[Empty, Large, Mismatch, Modulus, Factors, Coefficient, Singular],
+    gives: &[Empty, Large, Mismatch, Modulus, Factors, Coefficient, Singular],
     patterns: &[0, 2],
     complete,
     ask,

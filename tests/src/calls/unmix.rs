@@ -2,17 +2,18 @@ use super::mix::product;
 use super::Call;
 use crate::case::{Answer, Case};
 use crate::circulant;
-use crate::door::{singular, Number, Number::*, Reply, Verdict};
+use crate::door::{Reply, Verdict};
 use crate::draw;
 use crate::factors::List;
 use crate::figures::{limits, worked, Figure};
 use crate::lent::Loan;
+use crate::numbers::{singular, Number, Number::*};
 use crate::random::Random;
 
 pub const CALL: Call = Call {
     name: "unmix",
     rings: 2,
-    order: &[Empty, Large, Mismatch, Modulus, Factors, Coefficient, Room, Singular],
+    gives: &[Empty, Large, Mismatch, Modulus, Factors, Coefficient, Room, Singular],
     patterns: &[0],
     complete,
     ask,

@@ -1,6 +1,7 @@
 //! The two calls of the C door that take a sheet, as include/dowelbrook.h declares them.
 
 use super::fields::{Field, Parts, Refusal};
+use crate::door::Reply;
 use crate::lent::Lent;
 use crate::random::Random;
 
@@ -45,7 +46,8 @@ impl From<Result<Parts<'_>, Refusal<'_>>> for Sheet {
                 ..Sheet::default()
             },
             Err(refusal) => {
-                Sheet { number: refusal.number(), place: refusal.at, ..Sheet::default() }
+                let Reply { number, place, .. } = refusal.reply();
+                Sheet { number, place, ..Sheet::default() }
             }
         }
     }

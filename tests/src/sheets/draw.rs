@@ -2,15 +2,15 @@
 
 use super::draft::{self, written, Draft};
 use super::faults::spoilt;
-use super::text::ORDER;
+use super::text::GIVEN;
 use crate::calls::{invert, unmix, Call};
-use crate::door::Number;
 use crate::draw;
+use crate::numbers::Number;
 use crate::random::Random;
 
 /// A sheet without readings holds what invert takes, and one with readings what unmix does.
 const CALLS: [Call; 2] =
-    [Call { order: ORDER, ..invert::CALL }, Call { order: ORDER, ..unmix::CALL }];
+    [Call { gives: GIVEN, ..invert::CALL }, Call { gives: GIVEN, ..unmix::CALL }];
 
 const SPOILT: usize = 2;
 

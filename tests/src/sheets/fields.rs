@@ -1,6 +1,9 @@
 //! The pattern sheet as document 01 tells it: split into fields by their own lengths, whatever they
 //! hold, and then judged field by field and rule by rule.
 
+use crate::door::Reply;
+use crate::numbers::Number;
+
 /// Tag and length.
 const HEADER: usize = 3;
 
@@ -77,13 +80,13 @@ const ORDER: [Rule; 6] =
     [Rule::Header, Rule::Tag, Rule::Lower, Rule::Length, Rule::Value, Rule::Version];
 
 impl Rule {
-    pub fn number(self) -> u32 {
+    pub fn number(self) -> Number {
         match self {
-            Rule::Header | Rule::Value => 20,
-            Rule::Tag => 21,
-            Rule::Length => 22,
-            Rule::Lower | Rule::Complete => 23,
-            Rule::Version => 24,
+            Rule::Header | Rule::Value => Number::Cut,
+            Rule::Tag => Number::Tag,
+            Rule::Length => Number::Length,
+            Rule::Lower | Rule::Complete => Number::Missing,
+            Rule::Version => Number::Version,
         }
     }
 
@@ -140,8 +143,8 @@ pub struct Refusal<'a> {
 }
 
 impl Refusal<'_> {
-    pub fn number(&self) -> u32 {
-        self.broken[0].number()
+    pub fn reply(&self) -> Reply {
+        self.broken[0].number().reply(0, self.at, 0)
     }
 }
 

@@ -6,7 +6,8 @@ use super::text::{Finding, Outcome};
 use crate::calls::unmix;
 use crate::case::Case;
 use crate::counts::Counts;
-use crate::door::{Number, Reply};
+use crate::door::Reply;
+use crate::numbers::Number;
 use crate::refusals::singular_too;
 
 /// Each with how often it must be met at least.
@@ -139,11 +140,11 @@ fn count_unreadable(refusal: &Refusal, counts: &mut Counts) {
     let (first, others) = (refusal.broken[0], &refusal.broken[1..]);
     counts.meet(&cause(first, &field, refusal.after));
     if refusal.after == Some(5) {
-        counts.meet(&format!("{} after tag 5", first.number()));
+        counts.meet(&format!("{} after tag 5", first.number() as u32));
     }
     counts.meet_if(short_and_wrong(&field, refusal.after), "20 header: a wrong tag too");
     for other in others {
-        counts.meet(&format!("{} while {}", first.number(), other.number()));
+        counts.meet(&format!("{} while {}", first.number() as u32, other.number() as u32));
     }
 }
 

@@ -3,11 +3,12 @@
 use super::fields::{self, number, Parts, Refusal};
 use crate::case::Case;
 use crate::circulant;
-use crate::door::{Number, Reply};
+use crate::door::Reply;
+use crate::numbers::Number;
 use crate::refusals;
 
 /// What a sheet holds can meet these: it is never LARGE, and its rings never MISMATCH.
-pub const ORDER: &[Number] =
+pub const GIVEN: &[Number] =
     &[Number::Empty, Number::Modulus, Number::Factors, Number::Coefficient, Number::Singular];
 
 /// Elimination takes too long for a pattern with more entries.
@@ -47,7 +48,8 @@ impl Outcome<'_> {
         match self {
             Outcome::Read(case, finding) => printed(case, finding),
             Outcome::Unreadable(refusal) => {
-                Some(format!("refused {} at {}\n", refusal.number(), refusal.at))
+                let Reply { number, place, .. } = refusal.reply();
+                Some(format!("refused {number} at {place}\n"))
             }
         }
     }
@@ -64,7 +66,7 @@ fn case_of(parts: &Parts) -> Case {
 }
 
 fn find(case: &Case) -> Finding {
-    let refusals = refusals::all(ORDER, case);
+    let refusals = refusals::all(GIVEN, case);
     if !refusals.is_empty() {
         return Finding::Refused(refusals);
     }
