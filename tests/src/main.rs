@@ -1,5 +1,6 @@
 //! Compares the C door, the inner functions and the program with a second implementation, written from
-//! document 01 alone: answer, told values and the whole content of every lent buffer.
+//! document 01 alone: answer, told values and the whole content of every lent buffer. And the tables of
+//! numbers that the header, the Python module and README.md have.
 
 mod calls;
 mod case;
@@ -21,6 +22,7 @@ mod program;
 mod random;
 mod refusals;
 mod sheets;
+mod tables;
 mod tally;
 mod twins;
 
@@ -91,11 +93,13 @@ impl Task {
 
 /// Runs everything, up to the first difference.
 fn run(random: &mut Random) -> Result<Agreed, String> {
+    let rows = tables::run()?;
     let cases = run_calls(random)?;
     let inner = parts::run(&probe::ALL, random)?;
     let sheets = parts::run(&sheets::ALL, random)?;
     let runs = parts::run(&[program::PART], random)?;
     Ok(vec![
+        (rows, "rows of the tables of numbers"),
         (inner, "inner answers"),
         (sheets, "sheets"),
         (runs, "runs of the program"),

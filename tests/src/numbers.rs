@@ -27,6 +27,9 @@ pub enum Number {
 pub const ORDER: [Number; 9] =
     [Empty, Large, Mismatch, Modulus, Factors, Coefficient, Room, Divisor, Singular];
 
+/// The refusals of a sheet, in whatever order its fields give them.
+pub const OF_A_SHEET: [Number; 5] = [Cut, Tag, Length, Missing, Version];
+
 /// What a number tells besides. An offset in a sheet is told as a place.
 #[derive(Clone, Copy, Debug, PartialEq, Eq)]
 pub enum Told {
