@@ -1,6 +1,7 @@
 //! How often each kind of answer or input was met, and whether that is often enough.
 
 use crate::parts::Part;
+use std::fmt;
 
 pub struct Counts<'a> {
     part: &'a Part,
@@ -39,14 +40,17 @@ impl<'a> Counts<'a> {
         kinds.find(|(name, least)| self.met(name) < *least).map(|(name, _)| *name)
     }
 
-    pub fn print(&self) {
-        println!("{:<8}{:<40}{:>9}", self.part.name, "answers", self.answers);
-        for ((name, least), met) in self.part.kinds.iter().zip(&self.met) {
-            println!("{:<8}{name:<40}{met:>9}{least:>9}", "");
-        }
+    pub fn head() -> String {
+        format!("{:<8}{:<40}{:>9}{:>9}\n", "part", "kind", "met", "at least")
     }
+}
 
-    pub fn print_head() {
-        println!("\n{:<8}{:<40}{:>9}{:>9}", "part", "kind", "met", "at least");
+impl fmt::Display for Counts<'_> {
+    fn fmt(&self, to: &mut fmt::Formatter) -> fmt::Result {
+        writeln!(to, "{:<8}{:<40}{:>9}", self.part.name, "answers", self.answers)?;
+        for ((name, least), met) in self.part.kinds.iter().zip(&self.met) {
+            writeln!(to, "{:<8}{name:<40}{met:>9}{least:>9}", "")?;
+        }
+        Ok(())
     }
 }

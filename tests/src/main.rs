@@ -21,20 +21,22 @@ mod probe;
 mod program;
 mod random;
 mod refusals;
+mod shares;
 mod sheets;
 mod tables;
 mod tally;
 mod twins;
 
 use calls::Call;
+use counts::Counts;
 use random::Random;
+use shares::{Agreement, Share};
 use std::process::ExitCode;
 use tally::Tally;
 
 const USAGE: &str = "usage: comparison [--sheets COUNT | --program COUNT] [SEED]";
 const SEED: u64 = 20_260;
 const CASES_EACH: usize = 100_000;
-const LEAST_CASES: usize = 100_000;
 
 /// How many of each sort agree.
 type Agreed = Vec<(usize, &'static str)>;
@@ -91,45 +93,72 @@ impl Task {
     }
 }
 
-/// Runs everything, up to the first difference.
+/// What is counted together, how many of it there must be at least, and how its table begins.
+struct Group {
+    what: &'static str,
+    least: usize,
+    head: String,
+    shares: Vec<Share>,
+}
+
+fn groups() -> [Group; 4] {
+    let group = |what, least, parts| {
+        let (head, shares) = (Counts::head(), parts::shares(parts));
+        Group { what, least, head, shares }
+    };
+    let (head, shares) = (Tally::head(), shares_of_calls());
+    [
+        Group { what: "cases", least: 600_000, head, shares },
+        group("inner answers", 3_000_000, &probe::ALL),
+        group("sheets", 2_000_000, &sheets::ALL),
+        group("runs of the program", 10_000, &[program::PART]),
+    ]
+}
+
+/// Runs everything, unless something differs.
 fn run(random: &mut Random) -> Result<Agreed, String> {
-    let rows = tables::run()?;
-    let cases = run_calls(random)?;
-    let inner = parts::run(&probe::ALL, random)?;
-    let sheets = parts::run(&sheets::ALL, random)?;
-    let runs = parts::run(&[program::PART], random)?;
-    Ok(vec![
-        (rows, "rows of the tables of numbers"),
-        (inner, "inner answers"),
-        (sheets, "sheets"),
-        (runs, "runs of the program"),
-        (cases, "cases"),
-    ])
+    let mut agreed = vec![(tables::run()?, "rows of the tables of numbers")];
+    let groups = groups();
+    let shares: Vec<&Share> = groups.iter().flat_map(|group| &group.shares).collect();
+    let mut agreements = shares::run(&shares, random)?.into_iter();
+    for Group { what, least, head, shares } in groups {
+        print!("{head}");
+        let mut answers = 0;
+        for agreement in agreements.by_ref().take(shares.len()) {
+            print!("{}", agreement.text);
+            answers += agreement.answers;
+        }
+        println!();
+        if answers < least {
+            return Err(format!("only {answers} {what}"));
+        }
+        agreed.push((answers, what));
+    }
+    Ok(agreed)
 }
 
 type Run = fn(&mut Random) -> Result<usize, String>;
 
-fn run_calls(random: &mut Random) -> Result<usize, String> {
-    let mut cases = 0;
-    Tally::print_head();
-    for call in &calls::ALL {
-        (call.figures)().iter().try_for_each(|figure| compare::figure(call, figure, random))?;
-        let tally = draw_and_compare(call, random)?;
-        tally.print();
-        if !tally.enough() {
-            return Err(format!("{}: an answer was met too seldom", call.name));
-        }
-        cases += tally.cases;
+fn shares_of_calls() -> Vec<Share> {
+    let calls: &'static [Call] = &calls::ALL;
+    let of_call = |call| -> Share { Box::new(move |random| run_call(call, random)) };
+    let runs = [("twins", twins::run as Run), ("large rings", large::run)];
+    let of_run = |(name, run)| -> Share { Box::new(move |random| run_as(name, run, random)) };
+    calls.iter().map(of_call).chain(runs.map(of_run)).collect()
+}
+
+fn run_call(call: &Call, random: &mut Random) -> Result<Agreement, String> {
+    (call.figures)().iter().try_for_each(|figure| compare::figure(call, figure, random))?;
+    let tally = draw_and_compare(call, random)?;
+    if !tally.enough() {
+        return Err(format!("{}: an answer was met too seldom\n{tally}", call.name));
     }
-    for (name, run) in [("twins", twins::run as Run), ("large rings", large::run)] {
-        let agree = run(random).map_err(|fault| format!("{name}: {fault}"))?;
-        println!("{name:<30}{agree:>8}");
-        cases += agree;
-    }
-    if cases < LEAST_CASES {
-        return Err(format!("only {cases} cases"));
-    }
-    Ok(cases)
+    Ok(Agreement { answers: tally.cases, text: tally.to_string() })
+}
+
+fn run_as(name: &str, run: Run, random: &mut Random) -> Result<Agreement, String> {
+    let answers = run(random).map_err(|fault| format!("{name}: {fault}"))?;
+    Ok(Agreement { answers, text: format!("{name:<30}{answers:>8}\n") })
 }
 
 /// Legal cases and each set of faults in turn.

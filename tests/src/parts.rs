@@ -2,6 +2,7 @@
 
 use crate::counts::Counts;
 use crate::random::Random;
+use crate::shares::{Agreement, Share};
 
 pub struct Part {
     pub name: &'static str,
@@ -12,20 +13,17 @@ pub struct Part {
 }
 
 impl Part {
-    /// Hands back how many answers agree.
-    pub fn run(&self, random: &mut Random) -> Result<usize, String> {
+    fn run(&self, random: &mut Random) -> Result<Agreement, String> {
         let mut counts = Counts::new(self);
         (self.compare)(&mut counts, random).map_err(|fault| format!("{}: {fault}", self.name))?;
-        counts.print();
         match counts.too_seldom() {
-            Some(kind) => Err(format!("{}: \"{kind}\" was met too seldom", self.name)),
-            None => Ok(counts.answers),
+            Some(kind) => Err(format!("{}: \"{kind}\" was met too seldom\n{counts}", self.name)),
+            None => Ok(Agreement { answers: counts.answers, text: counts.to_string() }),
         }
     }
 }
 
-/// Hands back how many answers of all parts agree.
-pub fn run(parts: &[Part], random: &mut Random) -> Result<usize, String> {
-    Counts::print_head();
-    parts.iter().map(|part| part.run(random)).sum()
+pub fn shares(parts: &'static [Part]) -> Vec<Share> {
+    let share = |part: &'static Part| -> Share { Box::new(|random| part.run(random)) };
+    parts.iter().map(share).collect()
 }

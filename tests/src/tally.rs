@@ -2,6 +2,7 @@
 
 use crate::calls::Call;
 use crate::numbers::{Number, ORDER};
+use std::fmt;
 
 const LEAST_GIVEN: usize = 500;
 const LEAST_ALONE: usize = 500;
@@ -64,17 +65,20 @@ impl<'a> Tally<'a> {
         possible.map(|other| self.paired[number.rank()][other.rank()]).min()
     }
 
-    pub fn print(&self) {
-        println!("{:<14}{:<16}{:>8}", self.call.name, "0 DONE", self.done);
+    pub fn head() -> String {
+        format!("{:<14}{:<16}{:>8}{:>8}{:>8}\n", "call", "answer", "given", "alone", "paired")
+    }
+}
+
+impl fmt::Display for Tally<'_> {
+    fn fmt(&self, to: &mut fmt::Formatter) -> fmt::Result {
+        writeln!(to, "{:<14}{:<16}{:>8}", self.call.name, "0 DONE", self.done)?;
         for number in self.call.order() {
             let name = format!("{} {}", number as u32, number.name());
             let (given, alone) = (self.given[number.rank()], self.alone[number.rank()]);
             let paired = self.rarest_pair(number).map_or("-".into(), |count| count.to_string());
-            println!("{:<14}{name:<16}{given:>8}{alone:>8}{paired:>8}", "");
+            writeln!(to, "{:<14}{name:<16}{given:>8}{alone:>8}{paired:>8}", "")?;
         }
-    }
-
-    pub fn print_head() {
-        println!("{:<14}{:<16}{:>8}{:>8}{:>8}", "call", "answer", "given", "alone", "paired");
+        Ok(())
     }
 }

@@ -52,8 +52,7 @@ pub fn run_long(sheets: usize, random: &mut Random) -> Result<usize, String> {
             next_line += BETWEEN_LINES;
         }
     }
-    Counts::print_head();
-    counts.print();
+    print!("\n{}{counts}", Counts::head());
     match counts.too_seldom() {
         Some(kind) if sheets >= SHEETS => Err(format!("\"{kind}\" was met too seldom")),
         _ => Ok(counts.answers),
