@@ -1,4 +1,3 @@
-pub mod FirstHigh
-pub mod Orders
-pub mod Passing
+-- Lists of checks; that a contract of the form `Meets` has one answer, and where it has one.
+pub mod Firsts
 pub mod OneAnswer

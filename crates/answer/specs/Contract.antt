@@ -1,20 +1,21 @@
--- The contract of a call with an output: what it may answer, and what its output may hold then.
+-- The contract of a call: what it may answer, and what may stand beside its answer then. Beside an answer stand the outputs that the call is lent and
+-- the values that it tells; R is their type, whatever they are.
 use Prim.Native.Nat.{ℕ}
 use mathlib.Core.Path.{_≡_}
 use mathlib.Core.List.{List}
-use Rattle.answer.specs.Order.{first}
+use Rattle.answer.specs.First.{first}
 use Rattle.answer.specs.declared.Check.{Check}
 use Rattle.answer.specs.declared.Check.the-variants as check
 use Rattle.answer.specs.declared.Answer.{Answer}
 use Rattle.answer.specs.declared.Answer.the-variants.{Done, Singular, Refused}
 
--- `checks` is the call's order, `done` and `singular` say what the output holds then, `old` is the output as it came, `new` as it is left.
+-- `checks` is the call's order; `done` and `singular` say what may stand beside the answer then; `stays` is each output as it came, and nothing told.
 -- "Refusals 1 to 8, and every number added later, leave each lent output as it came."
-abbrev pub Meets : List Check → (done : List ℕ → Type 0) → (singular : ℕ → ℕ → List ℕ → Type 0) → (old : List ℕ) → Answer → (new : List ℕ) → Type 0
-Meets checks done singular old Done new = (first checks ≡ check.Passed) × done new
-Meets checks done singular old (Singular ring prime) new = (first checks ≡ check.Passed) × singular ring prime new
-Meets checks done singular old (Refused r) new = (first checks ≡ check.Refused r) × (new ≡ old)
+abbrev pub Meets : {R : Type 0} → List Check → (done : R → Type 0) → (singular : ℕ → ℕ → R → Type 0) → (stays : R) → Answer → R → Type 0
+Meets checks done singular stays Done r = (first checks ≡ check.Passed) × done r
+Meets checks done singular stays (Singular ring prime) r = (first checks ≡ check.Passed) × singular ring prime r
+Meets checks done singular stays (Refused refusal) r = (first checks ≡ check.Refused refusal) × (r ≡ stays)
 
--- A call that no pattern can make singular, and whose output is `result` when it is done.
-abbrev pub Fills : List Check → (result : List ℕ) → (old : List ℕ) → Answer → (new : List ℕ) → Type 0
-Fills checks result old answer new = Meets checks (λ out. out ≡ result) (λ ring prime out. ⊥) old answer new
+-- A call that no pattern can make singular, and that leaves `result` when it is done.
+abbrev pub Fills : {R : Type 0} → List Check → (result : R) → (stays : R) → Answer → R → Type 0
+Fills checks result stays answer r = Meets checks (λ x. x ≡ result) (λ ring prime x. ⊥) stays answer r

@@ -1,6 +1,5 @@
 pub mod Numbers
 pub mod Reply
-pub mod Order
-pub mod Checks
-pub mod Factors
+pub mod Refuse
+pub mod First
 pub mod Contract

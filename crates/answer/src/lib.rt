@@ -1,14 +1,7 @@
-// What a call can answer, and the checks that every call shares.
-use limits::LEAST_MODULUS;
-use limits::MOST_ENTRIES;
-use limits::MOST_MODULUS;
-use modular::factor::factor_fault;
+// What a call can answer: refusals and answers, by name and in the paper's numbers.
 ghost use mathlib.Core.Path.{_≡_};
-ghost use mathlib.Core.List.{[], _∷_};
-ghost use Prim.Native.Nat.{_<_};
-ghost use Rattle.answer.specs.Order.{or, first, order};
-ghost use Rattle.answer.specs.Checks.{refuse-if, empty, large, mismatch, modulus, first-high, coefficient, room, divisor};
-ghost use Rattle.answer.specs.Factors.{factors};
+ghost use Rattle.answer.specs.First.{or};
+ghost use Rattle.answer.specs.Refuse.{refuse-if};
 ghost use Rattle.answer.specs.Numbers.{row, refusal-row};
 ghost use Rattle.answer.specs.Reply.{tell, refusal-reply, reply};
 
@@ -93,126 +86,6 @@ pub fn refuse_if(test: bool, case: Case, ring: usize, place: usize) -> Check
         return Check::Refused(Refusal { case, ring, place });
     }
     Check::Passed
-}
-
-pub fn check_empty(n: usize) -> Check
-    ensures { λ r. ⌜ r ≡ empty n ⌝ }
-{
-    refuse_if(n == 0, Case::Empty, 0, 0)
-}
-
-pub fn check_large(n: usize, most: usize) -> Check
-    ensures { λ r. ⌜ r ≡ large most n ⌝ }
-{
-    refuse_if(most < n, Case::Large, 0, 0)
-}
-
-pub fn check_mismatch(n: usize, len: usize, ring: usize) -> Check
-    ensures { λ r. ⌜ r ≡ mismatch n ring len ⌝ }
-{
-    refuse_if(len != n, Case::Mismatch, ring, 0)
-}
-
-pub fn check_modulus(m: u32, least: u32, most: u32) -> Check
-    ensures { λ r. ⌜ r ≡ modulus least most m ⌝ }
-{
-    refuse_if(m < least, Case::Modulus, 0, 0).or(refuse_if(most < m, Case::Modulus, 0, 0))
-}
-
-pub fn check_factors(primes: &[u32], exponents: &[u8], m: u32) -> Check
-    ensures { λ r. ⌜ r ≡ factors m (now (primes .entry)) (now (exponents .entry)) ⌝ }
-{
-    refuse_if(factor_fault(primes, exponents, m), Case::Factors, 0, 0)
-}
-
-// The place of the first entry that is m or more; the length where there is none.
-fn first_high(a: &[u32], m: u32) -> usize
-    ensures { λ r. ⌜ r ≡ first-high m (now (a .entry)) ⌝ }
-{
-    let mut i = 0;
-    while i < a.len() {
-        if m <= a[i] {
-            return i;
-        }
-        i += 1;
-    }
-    i
-}
-
-pub fn check_coefficient(a: &[u32], m: u32, ring: usize) -> Check
-    ensures { λ r. ⌜ r ≡ coefficient m ring (now (a .entry)) ⌝ }
-{
-    let place = first_high(a, m);
-    refuse_if(place < a.len(), Case::Coefficient, ring, place)
-}
-
-pub fn check_room(n: usize, len: usize) -> Check
-    ensures { λ r. ⌜ r ≡ room n len ⌝ }
-{
-    refuse_if(len != n, Case::Room, 0, 0)
-}
-
-pub fn check_divisor(d: usize, n: usize, least: usize) -> Check
-    requires { ⌜ 0 < least ⌝ }
-    ensures { λ r. ⌜ r ≡ divisor least n d ⌝ }
-{
-    if d < least {
-        return refuse_if(true, Case::Divisor, 0, 0);
-    }
-    refuse_if(n % d != 0, Case::Divisor, 0, 0)
-}
-
-// Checks 1 to 6 of a call with one ring. `factors` is what the check of the factor list found: Passed where the call has none.
-pub fn check_ring(a: &[u32], m: u32, factors: Check) -> Check
-    ensures { λ r. ⌜ r ≡ first (order (now (a .entry)) [] m factors []) ⌝ }
-{
-    let n = a.len();
-    let shape = check_empty(n)
-        .or(check_large(n, MOST_ENTRIES))
-        .or(check_modulus(m, LEAST_MODULUS, MOST_MODULUS))
-        .or(factors);
-    match shape {
-        Check::Passed => check_coefficient(a, m, 1),
-        Check::Refused(refusal) => Check::Refused(refusal),
-    }
-}
-
-// The same of a call with two rings.
-pub fn check_rings(a: &[u32], b: &[u32], m: u32, factors: Check) -> Check
-    ensures { λ r. ⌜ r ≡ first (order (now (a .entry)) (now (b .entry) ∷ []) m factors []) ⌝ }
-{
-    let n = a.len();
-    let shape = check_empty(n)
-        .or(check_large(n, MOST_ENTRIES))
-        .or(check_mismatch(n, b.len(), 2))
-        .or(check_modulus(m, LEAST_MODULUS, MOST_MODULUS))
-        .or(factors);
-    match shape {
-        Check::Passed => check_coefficient(a, m, 1).or(check_coefficient(b, m, 2)),
-        Check::Refused(refusal) => Check::Refused(refusal),
-    }
-}
-
-// The same of a call with four rings.
-pub fn check_four_rings(a: &[u32], b: &[u32], c: &[u32], d: &[u32], m: u32, factors: Check) -> Check
-    ensures { λ r. ⌜ r ≡ first (order (now (a .entry)) (now (b .entry) ∷ now (c .entry) ∷ now (d .entry) ∷ []) m factors []) ⌝ }
-{
-    let n = a.len();
-    let lengths = check_mismatch(n, b.len(), 2)
-        .or(check_mismatch(n, c.len(), 3))
-        .or(check_mismatch(n, d.len(), 4));
-    let shape = check_empty(n)
-        .or(check_large(n, MOST_ENTRIES))
-        .or(lengths)
-        .or(check_modulus(m, LEAST_MODULUS, MOST_MODULUS))
-        .or(factors);
-    match shape {
-        Check::Passed => check_coefficient(a, m, 1)
-            .or(check_coefficient(b, m, 2))
-            .or(check_coefficient(c, m, 3))
-            .or(check_coefficient(d, m, 4)),
-        Check::Refused(refusal) => Check::Refused(refusal),
-    }
 }
 
 fn numbered(number: u32, told: Told) -> Row

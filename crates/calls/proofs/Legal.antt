@@ -8,12 +8,15 @@ use lib.ListN.{length}
 use Rattle.limits.specs.Limits.{least-modulus}
 use Rattle.convolve.specs.Mixable.{Mixable}
 use Rattle.convolve.proofs.Rings.{rings-mixable}
-use Rattle.answer.specs.Checks.{room, divisor}
-use Rattle.answer.specs.Order.{first, no-list}
+use Rattle.checks.specs.Checks.{room, divisor}
+use Rattle.answer.specs.First.{first}
+use Rattle.checks.specs.Order.{no-list}
 use Rattle.answer.specs.declared.Check.the-variants.{Passed}
-use Rattle.answer.proofs.Orders.{legal, both, room-passes, divisor-passes}
+use Rattle.answer.proofs.Firsts.{both}
+use Rattle.checks.proofs.Orders.{legal, room-passes, divisor-passes}
 use Rattle.calls.specs.Contracts.{mix-order, reduce-order, fold-order}
-use Rattle.calls.specs.Ready.{Reducible, Foldable}
+use Rattle.slices.specs.Asks.{Reducible}
+use Rattle.calls.specs.Ready.{Foldable}
 
 pub reduce-ready : (a : List ℕ) (m m′ : ℕ) (out : List ℕ) → first (reduce-order a m m′ (length out)) ≡ Passed → Reducible a m′ out
 reduce-ready a m m′ out e =

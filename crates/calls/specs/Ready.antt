@@ -1,13 +1,9 @@
--- What the loops of reduce and fold ask of their arguments.
+-- What the loops of fold ask of their arguments.
 use Prim.Native.Nat.{ℕ, _*_, _≤_, _<_, _∣_}
 use mathlib.Core.Path.{_≡_}
 use mathlib.Core.List.{List}
 use lib.ListN.{length}
 use Rattle.limits.specs.Limits.{most-entries}
-
-pub record Reducible (a : List ℕ) (m′ : ℕ) (out : List ℕ) : Type 0 where
-  pub modulus : 0 < m′
-  pub room : length out ≡ length a
 
 pub record Foldable (a : List ℕ) (m : ℕ) (out : List ℕ) : Type 0 where
   pub modulus : 0 < m

@@ -1,22 +1,22 @@
 // The calls mix, reduce and fold of document 01.
 use answer::Answer;
 use answer::Check;
-use answer::check_divisor;
-use answer::check_ring;
-use answer::check_rings;
-use answer::check_room;
+use checks::check_divisor;
+use checks::check_ring;
+use checks::check_rings;
+use checks::check_room;
 use convolve::convolve;
 use limits::LEAST_MODULUS;
+use slices::remainders;
 ghost use mathlib.Core.Path.{_≡_};
 ghost use Prim.Native.Nat.{_+_, _*_};
 ghost use lib.ListN.{length};
 ghost use Rattle.sums.specs.Sum.{sum};
 ghost use Rattle.sums.specs.Table.{at};
-ghost use Rattle.ring.specs.Reduce as reduced;
 ghost use Rattle.ring.specs.Fold as folded;
 ghost use Rattle.calls.specs.Contracts.{mix-order, reduce-order, fold-order, Mixes, Reduces, Folds};
-ghost use Rattle.answer.specs.Order.{first};
-ghost use Rattle.calls.specs.Ready.{Reducible, Foldable, InParts};
+ghost use Rattle.answer.specs.First.{first};
+ghost use Rattle.calls.specs.Ready.{Foldable, InParts};
 
 fn check_mix(a: &[u32], b: &[u32], m: u32, room: usize) -> Check
     ensures { λ r. ⌜ r ≡ first (mix-order (now (a .entry)) (now (b .entry)) m room) ⌝ }
@@ -34,18 +34,6 @@ pub fn mix(a: &[u32], b: &[u32], m: u32, out: &mut [u32]) -> Answer
             Answer::Done
         }
         Check::Refused(refusal) => Answer::Refused(refusal),
-    }
-}
-
-// The remainders of all entries, on plain slices.
-pub fn remainders(a: &[u32], divisor: u32, out: &mut [u32])
-    requires { ⌜ Reducible (now a) divisor (now out) ⌝ }
-    ensures { λ _. ⌜ now (out .exit) ≡ reduced.reduce (length (now (a .entry))) divisor (now (a .entry)) ⌝ }
-{
-    let mut k = 0;
-    while k < a.len() {
-        out[k] = a[k] % divisor;
-        k += 1;
     }
 }
 

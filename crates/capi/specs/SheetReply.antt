@@ -1,21 +1,16 @@
 -- What the reader finds, in numbers: 0, or the refusal in document 01's numbers with its offset; and where the parts lie.
-use Prim.Native.Nat.{ℕ}
-use mathlib.Core.Bool.{Bool, true, false}
 use Rattle.answer.specs.Reply.{reply}
 use Rattle.answer.specs.declared.Answer.{Answer}
 use Rattle.answer.specs.declared.Answer.the-variants as answer
 use Rattle.answer.specs.declared.Check.{Check}
 use Rattle.answer.specs.declared.Check.the-variants.{Passed, Refused}
 use Rattle.sheet.specs.declared.Sheet.{Sheet}
+use Rattle.capi.specs.Flag.{flag}
 use Rattle.capi.specs.declared.SheetReply as declared
 
 abbrev pub answered : Check → Answer
 answered Passed = answer.Done
 answered (Refused r) = answer.Refused r
-
-abbrev pub flag : Bool → ℕ
-flag true = 1
-flag false = 0
 
 abbrev pub sheet-reply : Sheet → declared.SheetReply
 sheet-reply sheet = record {

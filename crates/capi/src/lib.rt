@@ -4,17 +4,20 @@ use answer::Answer;
 use answer::Check;
 use answer::Reply;
 use answer::reply_of;
-use inverter::Verdict;
+use feeding::Verdict;
 use sheet::Sheet;
 use sheet::read;
 ghost use mathlib.Core.Path.{_≡_};
-ghost use Rattle.answer.specs.Reply.{Replied};
+ghost use Rattle.answer.specs.Reply.{reply, Replied};
 ghost use Rattle.calls.specs.Contracts.{Mixes, Reduces, Folds};
-ghost use Rattle.inverter.specs.Contracts.{Inverts, Unmixes};
+ghost use Rattle.pattern.specs.Sent.{sent};
+ghost use Rattle.pattern.specs.Factored.{factored};
+ghost use Rattle.pattern.specs.Contracts.{Inverts, Unmixes};
 ghost use Rattle.sheet.specs.Sheets.{sheet-of};
-ghost use Rattle.report.specs.Report.{Reports};
-ghost use Rattle.capi.specs.Judgement.{judgement, verdict-judgement, Judges};
-ghost use Rattle.capi.specs.SheetReply.{answered, flag, sheet-reply};
+ghost use Rattle.page.specs.Report.{Reports};
+ghost use Rattle.capi.specs.Flag.{flag};
+ghost use Rattle.capi.specs.Judgement.{judgement, Judges};
+ghost use Rattle.capi.specs.SheetReply.{answered, sheet-reply};
 
 #[no_mangle]
 pub extern "C" fn dowelbrook_mix(a: &[u32], b: &[u32], m: u32, out: &mut [u32]) -> Reply
@@ -45,9 +48,9 @@ pub extern "C" fn dowelbrook_invert(
     exponents: &[u8],
     out: &mut [u32],
 ) -> Reply
-    ensures { λ r. ⌜ Replied (λ answer. Inverts (now (f .entry)) m (now (primes .entry)) (now (exponents .entry)) (now (out .entry)) answer (now (out .exit))) r ⌝ }
+    ensures { λ r. ⌜ Replied (λ answer. Inverts (now (f .entry)) (factored m (now (primes .entry)) (now (exponents .entry))) (now (out .entry)) answer (now (out .exit))) r ⌝ }
 {
-    reply_of(inverter::invert(f, m, primes, exponents, out))
+    reply_of(invert::invert(f, m, primes, exponents, out))
 }
 
 #[no_mangle]
@@ -59,9 +62,15 @@ pub extern "C" fn dowelbrook_unmix(
     exponents: &[u8],
     out: &mut [u32],
 ) -> Reply
-    ensures { λ r. ⌜ Replied (λ answer. Unmixes (now (f .entry)) (now (y .entry)) m (now (primes .entry)) (now (exponents .entry)) (now (out .entry)) answer (now (out .exit))) r ⌝ }
+    ensures { λ r. ⌜ Replied (λ answer. Unmixes (sent (now (f .entry)) (now (y .entry))) (factored m (now (primes .entry)) (now (exponents .entry))) (now (out .entry)) answer (now (out .exit))) r ⌝ }
 {
-    reply_of(inverter::unmix(f, y, m, primes, exponents, out))
+    reply_of(feeding::unmix(f, y, m, primes, exponents, out))
+}
+
+fn flag(test: bool) -> usize
+    ensures { λ r. ⌜ r ≡ flag test ⌝ }
+{
+    if test { 1 } else { 0 }
 }
 
 // A reply, and whether the feedings are the same: 1 or 0.
@@ -87,17 +96,10 @@ fn with_reply(reply: Reply, same: usize) -> Judgement
 }
 
 fn judgement_of(verdict: Verdict) -> Judgement
-    ensures { λ r. ⌜ r ≡ verdict-judgement verdict ⌝ }
+    ensures { λ r. ⌜ r ≡ judgement (reply (verdict .answer)) (flag (verdict .same)) ⌝ }
 {
-    match verdict {
-        Verdict::Yes => with_reply(reply_of(Answer::Done), 1),
-        Verdict::No => with_reply(reply_of(Answer::Done), 0),
-        Verdict::Singular { ring, prime } => with_reply(
-            reply_of(Answer::Singular { ring, prime }),
-            0,
-        ),
-        Verdict::Refused(refusal) => with_reply(reply_of(Answer::Refused(refusal)), 0),
-    }
+    let answer = verdict.answer;
+    with_reply(reply_of(answer), flag(verdict.same))
 }
 
 #[no_mangle]
@@ -110,9 +112,9 @@ pub extern "C" fn dowelbrook_same_feeding(
     primes: &[u32],
     exponents: &[u8],
 ) -> Judgement
-    ensures { λ r. ⌜ Judges (now (f1 .entry)) (now (y1 .entry)) (now (f2 .entry)) (now (y2 .entry)) m (now (primes .entry)) (now (exponents .entry)) r ⌝ }
+    ensures { λ r. ⌜ Judges (sent (now (f1 .entry)) (now (y1 .entry))) (sent (now (f2 .entry)) (now (y2 .entry))) (factored m (now (primes .entry)) (now (exponents .entry))) r ⌝ }
 {
-    judgement_of(inverter::same_feeding(f1, y1, f2, y2, m, primes, exponents))
+    judgement_of(feeding::same_feeding(f1, y1, f2, y2, m, primes, exponents))
 }
 
 // What a sheet holds and where, or the refusal in the paper's numbers. Offsets count from the sheet's first byte.
@@ -137,12 +139,6 @@ fn answer_of(check: Check) -> Answer
         Check::Passed => Answer::Done,
         Check::Refused(refusal) => Answer::Refused(refusal),
     }
-}
-
-fn flag(test: bool) -> usize
-    ensures { λ r. ⌜ r ≡ flag test ⌝ }
-{
-    if test { 1 } else { 0 }
 }
 
 fn sheet_reply(sheet: Sheet) -> SheetReply

@@ -1,7 +1,4 @@
--- What a block's sum needs of the word; parts of lists; sums block by block; the two layouts; the output; the product; rings that can be mixed.
-pub mod Word
-pub mod Parts
-pub mod Blocks
+-- The output; the two layouts; the product; rings that can be mixed.
 pub mod Output
 pub mod Layouts
 pub mod Product

@@ -11,11 +11,12 @@ use lib.Seq.{ext-getD, getD-drop, getD-set-same, getD-set-other}
 use Rattle.sums.specs.Table.{at, table}
 use Rattle.sums.proofs.Sums.{sum-eq}
 use Rattle.sums.proofs.Tables.{length-table, at-table}
-use Rattle.convolve.specs.Layout.{along}
-use Rattle.convolve.specs.declared.Quad.{Quad}
-use Rattle.convolve.specs.Four.{Four, Words}
-use Rattle.convolve.specs.Inner.{AnyLength, Rows}
-use Rattle.convolve.proofs.Parts.{length-part, low-part, rest}
+use Rattle.along.specs.Along.{along}
+use Rattle.along.specs.declared.Quad.{Quad}
+use Rattle.along.specs.Four.{Four}
+use Rattle.along.specs.Asks.{AnyLength}
+use Rattle.convolve.specs.Inner.{Rows, Words}
+use Rattle.along.proofs.Parts.{length-part, low-part, rest}
 
 pub rows-ready : (x d : List ℕ) (m : ℕ) (out : List ℕ) (f : ℕ) → Rows x d m out → f ≤ length x → AnyLength x (take (length d - f) (drop f d)) m
 rows-ready x d m out f p h = record {

@@ -11,7 +11,8 @@ use Rattle.sums.specs.Table.{at, table}
 use Rattle.sums.proofs.Sums.{sum-eq, sum-step}
 use Rattle.sums.proofs.Tables.{table-eq}
 use Rattle.ring.specs.Mix.{mix}
-use Rattle.convolve.specs.Layout.{backwards, around, along}
+use Rattle.along.specs.Along.{along}
+use Rattle.convolve.specs.Layout.{backwards, around}
 use Rattle.convolve.specs.Mixable.{Mixable}
 use Rattle.convolve.specs.Inner.{Rows}
 use Rattle.convolve.proofs.Layouts.{length-backwards, at-backwards, low-backwards, length-around, at-around, low-around}

@@ -1,48 +1,13 @@
--- What the functions behind `convolve` ask of their callers, and where a block ends.
-use Prim.Native.Nat.{ℕ, _+_, _*_, _^_, _≤_, _<_}
+-- What the functions behind `convolve` ask of their callers.
+use Prim.Native.Nat.{ℕ, _+_, _^_, _≤_, _<_}
 use mathlib.Core.Path.{_≡_}
 use mathlib.Core.List.{List}
 use lib.ListN.{length}
-use Rattle.sums.specs.Table.{at}
 use Rattle.limits.specs.Limits.{most-modulus}
-use Rattle.convolve.specs.Block.{block, few}
+use Rattle.along.specs.Asks.{Low}
+use Rattle.along.specs.declared.Quad.{Quad}
+use Rattle.convolve.specs.Few.{few}
 use Rattle.convolve.specs.Mixable.{Mixable}
-
--- Factors of 32 bits, and room for their product on top of s.
-pub record ProductFits (s x y : ℕ) : Type 0 where
-  pub word-x : x < 2 ^ 32
-  pub word-y : y < 2 ^ 32
-  pub fits : s + x * y < 2 ^ 64
-
--- A sum that fits, and can be reduced by m.
-pub record SumFits (s t m : ℕ) : Type 0 where
-  pub positive : 0 < m
-  pub fits : s + t < 2 ^ 64
-
--- Every entry is below some modulus that is allowed.
-abbrev pub Low : List ℕ → Type 0
-Low l = (i : ℕ) → at l i < most-modulus
-
--- c reaches three places further than x; x is at most a block long.
-pub record OneBlock (x c : List ℕ) : Type 0 where
-  pub short : length x ≤ block
-  pub reach : length x + 3 ≤ length c
-  pub low-x : Low x
-  pub low-c : Low c
-
--- The block from i on ends at r: it is not empty, and no longer than a block and what is left.
-pub record BlockEnd (i n r : ℕ) : Type 0 where
-  pub past : i < r
-  pub within : r ≤ n
-  pub short : r ≤ i + block
-
--- The same with x of any length, and a modulus.
-pub record AnyLength (x c : List ℕ) (m : ℕ) : Type 0 where
-  pub reach : length x + 3 ≤ length c
-  pub low-x : Low x
-  pub low-c : Low c
-  pub positive : 0 < m
-  pub limit : m ≤ most-modulus
 
 -- d goes around twice, and three places further, so that four sums can start at every place of x.
 pub record Rows (x d : List ℕ) (m : ℕ) (out : List ℕ) : Type 0 where
@@ -54,12 +19,12 @@ pub record Rows (x d : List ℕ) (m : ℕ) (out : List ℕ) : Type 0 where
   pub limit : m ≤ most-modulus
 
 -- b is not empty, and d holds it at least once.
-pub record Holds (b d : List ℕ) : Type 0 where
+pub record HoldsOnce (b d : List ℕ) : Type 0 where
   pub least : 1 ≤ length b
   pub room : length b ≤ length d
 
 -- x and d have room for both layouts.
-pub record Room (a b : List ℕ) (m : ℕ) (x d out : List ℕ) : Type 0 where
+pub record RoomForBoth (a b : List ℕ) (m : ℕ) (x d out : List ℕ) : Type 0 where
   pub mixable : Mixable a b m out
   pub room-x : length a ≤ length x
   pub room-d : length a + length a + 3 ≤ length d
@@ -67,3 +32,11 @@ pub record Room (a b : List ℕ) (m : ℕ) (x d out : List ℕ) : Type 0 where
 pub record Few (a b : List ℕ) (m : ℕ) (out : List ℕ) : Type 0 where
   pub mixable : Mixable a b m out
   pub most : length a ≤ few
+
+-- Four words of 32 bits, for the places from k on, which fit a word too.
+pub record Words (k : ℕ) (q : Quad) : Type 0 where
+  pub place : k + 3 < 2 ^ 64
+  pub word0 : q .s0 < 2 ^ 32
+  pub word1 : q .s1 < 2 ^ 32
+  pub word2 : q .s2 < 2 ^ 32
+  pub word3 : q .s3 < 2 ^ 32

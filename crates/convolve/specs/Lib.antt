@@ -1,5 +1,4 @@
-pub mod Block
+pub mod Few
 pub mod Mixable
 pub mod Layout
-pub mod Four
 pub mod Inner

@@ -2,6 +2,8 @@
 -- is computed once. Assumes nothing.
 use Prim.Native.Nat.{ℕ, zero, suc, _*_, _/_, _%_, _<_, _∣_}
 use mathlib.Core.Path.{_≡_, refl, subst}
+use mathlib.Core.Logic.{_↔_}
+use mathlib.Core.Bool.{Bool, true, false}
 use mathlib.Core.List.{List, [], _∷_}
 use mathlib.Core.Option.{Option, some, none, IsSome}
 use native.Mathlib.Omega.{arith}
@@ -16,19 +18,23 @@ use Rattle.ring.specs.One.{one, zeros}
 use Rattle.ring.specs.Fold.{fold}
 use Rattle.modular.specs.Prime.{Prime}
 use Rattle.modular.specs.FactorList.{FactorList}
+use Rattle.modular.specs.FactorTest.{undivided?, prime?, rising?, factor-list?}
 use Rattle.modular.proofs.Factors.{divisor-listed}
-use Rattle.modular.proofs.Decide.{prime?, factor-list?}
-use Rattle.answer.specs.Checks.{first-high}
-use Rattle.answer.specs.Order.{first, order}
+use Rattle.modular.proofs.FactorTest.{prime-exactly}
+use Rattle.checks.specs.Checks.{first-high}
+use Rattle.answer.specs.First.{first}
+use Rattle.checks.specs.Order.{order, ring-order}
 use Rattle.answer.specs.declared.Check.{Check}
 use Rattle.answer.specs.declared.Check.the-variants.{Passed, Refused}
-use Rattle.inverter.specs.Singular.{Singular}
-use Rattle.inverter.specs.GhostPolynomial.{Degree}
-use Rattle.answer.specs.Factors.{factors}
-use Rattle.inverter.specs.Contracts.{invert-order}
-use Rattle.inverter.proofs.OnePrime.{zero-singular}
-use Rattle.inverter.proofs.Legal.{Granted, granted, invert-passes}
-use Rattle.inverter.proofs.Demand2.{invert-ghost}
+use Rattle.pattern.specs.Singular.{Singular}
+use Rattle.pattern.specs.GhostPolynomial.{Degree}
+use Rattle.checks.specs.Factors.{factors}
+use Rattle.pattern.specs.Contracts.{invert-order}
+use Rattle.pattern.proofs.OnePrime.{zero-singular}
+use Rattle.pattern.specs.Factored.{factored}
+use Rattle.pattern.specs.Granted.{Granted}
+use Rattle.pattern.proofs.Granted.{granted, invert-passes}
+use Rattle.pattern.proofs.Demand2.{invert-ghost}
 use Rattle.figures.specs.Figures.{Line, inverse, ghost, mixed, folded, AllSingular, Says, Rejected, All, lines, wrong-lines}
 use Rattle.figures.proofs.Search.{same?, implies?, below?, ring?, clear?, clear-singular, unclear-singular, clear-least}
 
@@ -41,6 +47,10 @@ abbrev if-yes : {A : Type 0} → Dec A → Option A
 if-yes (yes a) = some a
 if-yes (no n) = none
 
+abbrev if-true : {A : Type 0} (b : Bool) → (b ≡ true) ↔ A → Option A
+if-true true e = some (e .0 refl)
+if-true false e = none
+
 abbrev if-no : {A : Type 0} → Dec A → Option (¬ A)
 if-no (yes a) = none
 if-no (no n) = some n
@@ -51,11 +61,11 @@ abbrev passed? : (c : Check) → Option (c ≡ Passed)
 passed? Passed = some refl
 passed? (Refused r) = none
 
-given : (f : List ℕ) (m : ℕ) (ps es : List ℕ) → first (order f [] m (factors m ps es) []) ≡ Passed → Granted f [] m ps es
-given f m ps es ok = granted f [] m ps es [] ok .0
+given : (f : List ℕ) (m : ℕ) (ps es : List ℕ) → first (ring-order f [] m (factors m ps es) []) ≡ Passed → Granted f [] (factored m ps es)
+given f m ps es ok = granted f [] (factored m ps es) [] ok .0
 
-passes : (f : List ℕ) (m : ℕ) (ps es : List ℕ) → first (order f [] m (factors m ps es) []) ≡ Passed → (old : List ℕ) → length old ≡ length f → first (invert-order f m ps es (length old)) ≡ Passed
-passes f m ps es ok old e = invert-passes f m ps es (length old) (given f m ps es ok) e
+passes : (f : List ℕ) (m : ℕ) (ps es : List ℕ) → first (ring-order f [] m (factors m ps es) []) ≡ Passed → (old : List ℕ) → length old ≡ length f → first (invert-order f (factored m ps es) (length old)) ≡ Passed
+passes f m ps es ok old e = invert-passes f (factored m ps es) (length old) (given f m ps es ok) e
 
 -- ---- the parts of a ghost line
 
@@ -76,10 +86,10 @@ abbrev Fine : ℕ → List ℕ → List ℕ → ℕ → Type 0
 Fine n f ps p = (i : ℕ) → i < length ps → at ps i < p → ¬ Singular n (at ps i) f
 
 unfoldable fine? : (n : ℕ) (f : List ℕ) → 0 < n → length f ≡ n → (ps : List ℕ) (p : ℕ) → Option (Fine n f ps p)
-unfolding prime? clear? decLt
+unfolding prime? undivided? clear? decLt
 fine? n f n1 lf [] p = some (λ i h l s. omega arith)
 fine? n f n1 lf (q ∷ ps) p = fine? n f n1 lf ps p >>= λ rest. elim (decLt q p) [
-  | yes l ↦ if-yes (prime? q) >>= (λ prime. if-yes (clear? n q f n) >>= λ c. some (put rest (λ b. clear-singular n q prime n1 f lf c)))
+  | yes l ↦ if-true (prime? q) (prime-exactly q) >>= (λ prime. if-yes (clear? n q f n) >>= λ c. some (put rest (λ b. clear-singular n q prime n1 f lf c)))
   | no l ↦ some (put rest (λ b. absurd (l b)))
 ]
   where
@@ -94,10 +104,10 @@ none-smaller n f {p = p} l fine q prime d =
     subst (λ (x : ℕ). x < p → ¬ Singular n x f) (t .2) (fine (t .0) (t .1))
 
 unfoldable also? : (f : List ℕ) → 0 < length f → (ps : List ℕ) → Option (AllSingular f ps)
-unfolding prime? clear?
+unfolding prime? undivided? clear?
 also? f n1 [] = some tt
 also? f n1 (p ∷ ps) = do
-  prime ← if-yes (prime? p)
+  prime ← if-true (prime? p) (prime-exactly p)
   c ← if-no (clear? (length f) p f (length f))
   rest ← also? f n1 ps
   some (unclear-singular (length f) p prime n1 f refl c, rest)
@@ -105,9 +115,9 @@ also? f n1 (p ∷ ps) = do
 -- ---- the lines
 
 unfoldable says? : (l : Line) → Option (Says l)
-unfolding order first-high factors factor-list? prime? degree? fine? also? ring? same? clear? decLt ℕ-discrete mix fold one zeros table sum
+unfolding order first-high factors factor-list? rising? prime? undivided? degree? fine? also? ring? same? clear? decLt ℕ-discrete mix fold one zeros table sum
 says? (inverse m ps es f g) = do
-  ok ← passed? (first (order f [] m (factors m ps es) []))
+  ok ← passed? (first (ring-order f [] m (factors m ps es) []))
   r ← if-yes (ring? (length f) m g)
   e ← if-yes (same? (mix (length f) m f g) (one (length f) m))
   some (λ old h. record { meets = (passes f m ps es ok old h, record { ring = r; product = e }) })
@@ -116,9 +126,9 @@ says? (ghost m ps es f p out also) =
     let w = table n (λ k. at out k / (m / p)) in
     let d = degree w in
     do
-      ok ← passed? (first (order f [] m (factors m ps es) []))
+      ok ← passed? (first (ring-order f [] m (factors m ps es) []))
       n1 ← if-yes (decLt 0 n)
-      prime ← if-yes (prime? p)
+      prime ← if-true (prime? p) (prime-exactly p)
       divides ← if-yes (ℕ-discrete (m % p) 0)
       fine ← fine? n f n1 refl ps p
       r ← if-yes (ring? n p w)
@@ -157,13 +167,13 @@ or-else none b = b
 
 -- A prime of m that stands in the list, is below p and singular.
 unfoldable smaller? : (m : ℕ) (f : List ℕ) → 0 < length f → (ps : List ℕ) (p : ℕ) → Option ((q : ℕ) × Prime q × (q ∣ m) × (q < p) × Singular (length f) q f)
-unfolding prime? clear? decLt ℕ-discrete
+unfolding prime? undivided? clear? decLt ℕ-discrete
 smaller? m f n1 [] p = none
 smaller? m f n1 (q ∷ ps) p = or-else here (smaller? m f n1 ps p)
   where
     here : Option ((q : ℕ) × Prime q × (q ∣ m) × (q < p) × Singular (length f) q f)
     here = do
-      prime ← if-yes (prime? q)
+      prime ← if-true (prime? q) (prime-exactly q)
       divides ← if-yes (ℕ-discrete (m % q) 0)
       less ← if-yes (decLt q p)
       c ← if-no (clear? (length f) q f (length f))
@@ -186,7 +196,7 @@ rejected? (ghost m ps es f p out also) = or-else first-prime heard
     heard : Option (Rejected (ghost m ps es f p out also))
     heard = do
       n ← if-no (same? (mix (length f) m f out) (zeros (length f)))
-      some (λ old h. n (invert-ghost f m ps es old 1 p out h .silent))
+      some (λ old h. n (invert-ghost f (factored m ps es) old 1 p out h .silent))
 rejected? (mixed m a b c) = if-no (same? (mix (length a) m a b) c)
 rejected? (folded m a c) = if-no (same? (fold (length a) (length c) m a) c)
 

@@ -18,9 +18,9 @@ use Rattle.ring.specs.One.{zeros}
 use Rattle.ring.specs.Inverse.{Invertible}
 use Rattle.ring.proofs.Inverses.{ghost-excludes}
 use Rattle.modular.specs.Prime.{Prime}
-use Rattle.inverter.specs.Singular.{Singular}
-use Rattle.inverter.specs.GhostPolynomial.{Degree, GhostPolynomial}
-use Rattle.inverter.proofs.OnePrime.{inverse-or-polynomial, singular-exactly}
+use Rattle.pattern.specs.Singular.{Singular}
+use Rattle.pattern.specs.GhostPolynomial.{Degree, GhostPolynomial}
+use Rattle.pattern.proofs.OnePrime.{inverse-or-polynomial, singular-exactly}
 
 -- ---- lists, bounded numbers, rings
 

@@ -8,8 +8,9 @@ use lib.ListN.{length}
 use Rattle.ring.specs.Mix.{mix}
 use Rattle.ring.specs.Fold.{fold}
 use Rattle.answer.specs.declared.Answer.the-variants as answer
-use Rattle.inverter.specs.Singular.{Singular}
-use Rattle.inverter.specs.Contracts.{Inverts}
+use Rattle.pattern.specs.Singular.{Singular}
+use Rattle.pattern.specs.Factored.{factored}
+use Rattle.pattern.specs.Contracts.{Inverts}
 
 -- The factor list of m, which document 01 leaves out, is given by its primes and exponents.
 pub data Line : Type 0 where
@@ -26,15 +27,15 @@ AllSingular f (p ∷ ps) = Singular (length f) p f × AllSingular f ps
 -- "m, f has inverse g": invert answers Done and g, into any output of n entries. "m, f: prime p, ghost out; also .. is singular": it answers p and out,
 -- and the further primes are singular. "m, a mixed with b is c"; "m, a folded onto the length of c is c".
 abbrev pub Says : Line → Type 0
-Says (inverse m ps es f g) = (old : List ℕ) → length old ≡ length f → Inverts f m ps es old answer.Done g
-Says (ghost m ps es f p out also) = ((old : List ℕ) → length old ≡ length f → Inverts f m ps es old (answer.Singular 1 p) out) × AllSingular f also
+Says (inverse m ps es f g) = (old : List ℕ) → length old ≡ length f → Inverts f (factored m ps es) old answer.Done g
+Says (ghost m ps es f p out also) = ((old : List ℕ) → length old ≡ length f → Inverts f (factored m ps es) old (answer.Singular 1 p) out) × AllSingular f also
 Says (mixed m a b c) = mix (length a) m a b ≡ c
 Says (folded m a c) = fold (length a) (length c) m a ≡ c
 
 -- Of an answer that is wrong: it fits in no call, whatever output was lent.
 abbrev pub Rejected : Line → Type 0
-Rejected (inverse m ps es f g) = (old : List ℕ) → ¬ Inverts f m ps es old answer.Done g
-Rejected (ghost m ps es f p out also) = (old : List ℕ) → ¬ Inverts f m ps es old (answer.Singular 1 p) out
+Rejected (inverse m ps es f g) = (old : List ℕ) → ¬ Inverts f (factored m ps es) old answer.Done g
+Rejected (ghost m ps es f p out also) = (old : List ℕ) → ¬ Inverts f (factored m ps es) old (answer.Singular 1 p) out
 Rejected (mixed m a b c) = ¬ (mix (length a) m a b ≡ c)
 Rejected (folded m a c) = ¬ (fold (length a) (length c) m a ≡ c)
 

@@ -75,7 +75,7 @@ fn rounds() {
     calls::reduce(&[1, 6], 8, 4, &mut low);
     calls::mix(&[1, 2], &low, 4, &mut out);
     say_ring(b"one round, modulo 4:", &out);
-    inverter::invert(&[1, 2], 8, &[2], &[3], &mut out);
+    invert::invert(&[1, 2], 8, &[2], &[3], &mut out);
     say_ring(b"all rounds:", &out);
 }
 
@@ -84,19 +84,19 @@ fn factor_lists() {
     let mut out = [0u32; 1];
     say(
         b"2 3 with 2 1:",
-        inverter::invert(&[1], 12, &[2, 3], &[2, 1], &mut out),
+        invert::invert(&[1], 12, &[2, 3], &[2, 1], &mut out),
     );
     say(
         b"4 3 with 1 1:",
-        inverter::invert(&[1], 12, &[4, 3], &[1, 1], &mut out),
+        invert::invert(&[1], 12, &[4, 3], &[1, 1], &mut out),
     );
     say(
         b"3 2 with 1 2:",
-        inverter::invert(&[1], 12, &[3, 2], &[1, 2], &mut out),
+        invert::invert(&[1], 12, &[3, 2], &[1, 2], &mut out),
     );
     say(
         b"2 3 with 255 1:",
-        inverter::invert(&[1], 12, &[2, 3], &[255, 1], &mut out),
+        invert::invert(&[1], 12, &[2, 3], &[255, 1], &mut out),
     );
 }
 

@@ -1,5 +1,4 @@
--- The laws of lifting; one round of it in code; joining; the product of the first powers of a factor list.
+-- The laws of lifting; one round of it in code; joining.
 pub mod Lifting
 pub mod Rounds
 pub mod Joining
-pub mod FirstPowers

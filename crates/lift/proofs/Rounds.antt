@@ -18,12 +18,12 @@ use Rattle.ring.proofs.Product.{mix-ring, mix-reduce}
 use Rattle.ring.proofs.Lift.{lifted, lift-inverse}
 use Rattle.convolve.specs.Mixable.{Mixable}
 use Rattle.convolve.proofs.Rings.{rings-mixable, low-everywhere}
-use Rattle.lift.specs.Asks.{Lessened, Room, Round, Rounded, Liftable}
+use Rattle.lift.specs.Asks.{Lessened, Round, Rounded, Liftable}
 use Rattle.lift.proofs.Lifting.{lifted-table, power-divides, reached, reached-start, reached-next}
 
 module _ {f g p₀ s₀ t₀ : List ℕ} {q : ℕ} (pre : Round f g q p₀ s₀ t₀) where
   pub squaring : Mixable g g q s₀
-  squaring = rings-mixable (length f) q g g s₀ (pre .some) (pre .few) (pre .positive) (pre .limit) (pre .ring) (pre .ring) (pre .room .square-long)
+  squaring = rings-mixable (length f) q g g s₀ (pre .some) (pre .few) (pre .positive) (pre .limit) (pre .ring) (pre .ring) (pre .square-long)
 
   module _ {pattern square : List ℕ} (ep : pattern ≡ reduce (length f) q f) (es : square ≡ mix (length g) q g g) where
     square-is : square ≡ mix (length f) q g g
@@ -37,7 +37,7 @@ module _ {f g p₀ s₀ t₀ : List ℕ} {q : ℕ} (pre : Round f g q p₀ s₀ 
 
     pub multiplying : Mixable square pattern q t₀
     multiplying =
-        rings-mixable (length f) q square pattern t₀ (pre .some) (pre .few) (pre .positive) (pre .limit) square-ring pattern-ring (pre .room .product-long)
+        rings-mixable (length f) q square pattern t₀ (pre .some) (pre .few) (pre .positive) (pre .limit) square-ring pattern-ring (pre .product-long)
 
     module _ {product : List ℕ} (et : product ≡ mix (length square) q square pattern) where
       product-is : product ≡ mix (length f) q (mix (length f) q g g) f
@@ -100,14 +100,16 @@ module _ {f g₀ : List ℕ} {p k top : ℕ} (pre : Liftable f g₀ p k top) (t 
     now : Inverse (length f) q f g
     now = subst (λ (x : ℕ). Inverse (length f) x f g) (sym at-q) a
 
-    pub round-ready : {pattern square product : List ℕ} → Room (length f) pattern square product → Round f g q′ pattern square product
-    round-ready r = record {
+    pub round-ready : {pattern square product : List ℕ} → length pattern ≡ length f → length square ≡ length f → length product ≡ length f → Round f g q′ pattern square product
+    round-ready ep es et = record {
       positive = above;
       limit = omega (arith, next, pre .limit);
       some = pre .some;
       few = pre .few;
       ring = record { long = a .ring .long; low = λ i h. lt-of-lt-of-le (now .ring .low i h) (le-of-dvd above divides) };
-      room = r;
+      pattern-long = ep;
+      square-long = es;
+      product-long = et;
     }
 
     pub round-done : {new : List ℕ} → Rounded f g q′ new → Inverse (length f) (p ^ reached k (t + 1)) f new

@@ -17,20 +17,16 @@ pub record Lessened (g h : List ℕ) (q : ℕ) : Type 0 where
   pub low-g : (k : ℕ) → at g k < q
   pub low-h : (k : ℕ) → at h k < q
 
--- Room for n entries, three times.
-pub record Room (n : ℕ) (pattern square product : List ℕ) : Type 0 where
-  pub pattern-long : length pattern ≡ n
-  pub square-long : length square ≡ n
-  pub product-long : length product ≡ n
-
--- A round modulo q: g is a ring modulo q.
+-- A round modulo q: g is a ring modulo q, and the three slices lent for what lies between have n entries.
 pub record Round (f g : List ℕ) (q : ℕ) (pattern square product : List ℕ) : Type 0 where
   pub positive : 0 < q
   pub limit : q ≤ most-modulus
   pub some : 1 ≤ length f
   pub few : length f ≤ most-entries
   pub ring : Ring (length f) q g
-  pub room : Room (length f) pattern square product
+  pub pattern-long : length pattern ≡ length f
+  pub square-long : length square ≡ length f
+  pub product-long : length product ≡ length f
 
 -- "Each round doubles the power of p for which g is right" (document 01, How 000 gets there): where g was the inverse of f modulo some r, with r a
 -- divisor of q and q one of r², it becomes the inverse modulo q.
@@ -47,16 +43,12 @@ pub record Liftable (f g : List ℕ) (p k top : ℕ) : Type 0 where
   pub few : length f ≤ most-entries
   pub inverse : Inverse (length f) p f g
 
-pub record LiftableIn (f g : List ℕ) (p k top : ℕ) (pattern square product : List ℕ) : Type 0 where
+-- The same with three slices lent, each of n entries or more.
+pub record LiftableIn (f g : List ℕ) (p k top : ℕ) (first second third : List ℕ) : Type 0 where
   pub liftable : Liftable f g p k top
-  pub room : Room (length f) pattern square product
-
--- The same, with room for more.
-pub record LiftableWith (f g : List ℕ) (p k top : ℕ) (pattern square product : List ℕ) : Type 0 where
-  pub liftable : Liftable f g p k top
-  pub pattern-room : length f ≤ length pattern
-  pub square-room : length f ≤ length square
-  pub product-room : length f ≤ length product
+  pub first-room : length f ≤ length first
+  pub second-room : length f ≤ length second
+  pub third-room : length f ≤ length third
 
 pub record Blendable (x y first second m : ℕ) : Type 0 where
   pub positive : 0 < m

@@ -1,14 +1,14 @@
 // From inverses modulo primes to inverses modulo their powers, and from those to one modulo their product.
-use calls::remainders;
 use convolve::convolve;
 use limits::MOST_ENTRIES;
 use modular::power::rounds;
+use slices::remainders;
 ghost use mathlib.Core.Path.{_≡_};
 ghost use Prim.Native.Nat.{_+_, _-_, _*_, _%_, _^_, min};
 ghost use lib.ListN.{length};
 ghost use Rattle.sums.specs.Table.{at, table};
 ghost use Rattle.ring.specs.Inverse.{Inverse};
-ghost use Rattle.lift.specs.Asks.{Lessened, Round, Rounded, Liftable, LiftableIn, LiftableWith, Blendable, Blends, Joinable, Joined};
+ghost use Rattle.lift.specs.Asks.{Lessened, Round, Rounded, Liftable, LiftableIn, Blendable, Blends, Joinable, Joined};
 
 fn wide(x: u32) -> u64
     ensures { λ r. ⌜ r ≡ x ⌝ }
@@ -30,7 +30,7 @@ fn twice_less(g: &mut [u32], h: &[u32], q: u32)
     }
 }
 
-// g becomes 2 g - g² f modulo q. The other three are room for what lies between.
+// g becomes 2 g - g² f modulo q. The other three are lent for what lies between.
 fn round(
     f: &[u32],
     g: &mut [u32],
@@ -59,19 +59,24 @@ fn squared(q: u32, top: u32) -> u32
     top
 }
 
+// The rounds. Three slices of n entries or more are lent for what lies between.
 fn lift_in(
     f: &[u32],
     g: &mut [u32],
     p: u32,
     k: u32,
     top: u32,
-    pattern: &mut [u32],
-    square: &mut [u32],
-    product: &mut [u32],
+    first: &mut [u32],
+    second: &mut [u32],
+    third: &mut [u32],
 )
-    requires { ⌜ LiftableIn (now f) (now g) p k top (now pattern) (now square) (now product) ⌝ }
+    requires { ⌜ LiftableIn (now f) (now g) p k top (now first) (now second) (now third) ⌝ }
     ensures { λ _. ⌜ Inverse (length (now (f .entry))) (p ^ k) (now (f .entry)) (now (g .exit)) ⌝ }
 {
+    let n = f.len();
+    let pattern = &mut first[..n];
+    let square = &mut second[..n];
+    let product = &mut third[..n];
     let c = rounds(k);
     let mut q = p;
     let mut t = 0;
@@ -82,41 +87,15 @@ fn lift_in(
     }
 }
 
-fn lift_with(
-    f: &[u32],
-    g: &mut [u32],
-    p: u32,
-    k: u32,
-    top: u32,
-    pattern: &mut [u32],
-    square: &mut [u32],
-    product: &mut [u32],
-)
-    requires { ⌜ LiftableWith (now f) (now g) p k top (now pattern) (now square) (now product) ⌝ }
-    ensures { λ _. ⌜ Inverse (length (now (f .entry))) (p ^ k) (now (f .entry)) (now (g .exit)) ⌝ }
-{
-    let n = f.len();
-    lift_in(
-        f,
-        g,
-        p,
-        k,
-        top,
-        &mut pattern[..n],
-        &mut square[..n],
-        &mut product[..n],
-    );
-}
-
 // g, the inverse of f modulo p, becomes the inverse modulo p^k, which is top.
 pub fn lift(f: &[u32], g: &mut [u32], p: u32, k: u32, top: u32)
     requires { ⌜ Liftable (now f) (now g) p k top ⌝ }
     ensures { λ _. ⌜ Inverse (length (now (f .entry))) (p ^ k) (now (f .entry)) (now (g .exit)) ⌝ }
 {
-    let mut pattern = [0u32; MOST_ENTRIES];
-    let mut square = [0u32; MOST_ENTRIES];
-    let mut product = [0u32; MOST_ENTRIES];
-    lift_with(f, g, p, k, top, &mut pattern, &mut square, &mut product);
+    let mut first = [0u32; MOST_ENTRIES];
+    let mut second = [0u32; MOST_ENTRIES];
+    let mut third = [0u32; MOST_ENTRIES];
+    lift_in(f, g, p, k, top, &mut first, &mut second, &mut third);
 }
 
 fn blended(x: u32, y: u32, first: u64, second: u64, m: u64) -> u32

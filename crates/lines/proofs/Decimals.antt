@@ -1,6 +1,6 @@
 -- A number has one decimal: digits without a leading zero are as many as the number asks for, since k digits are worth less than 10^k and k + 1 digits
 -- with a first one above 0 at least that; and as many digits of equal worth are equal, one by one. The next digit comes last. Assumes nothing.
-use Prim.Native.Nat.{ℕ, zero, suc, _+_, _*_, _/_, _%_, _^_, _≤_, _<_}
+use Prim.Native.Nat.{ℕ, _+_, _*_, _/_, _%_, _^_, _≤_, _<_}
 use mathlib.Core.Path.{_≡_, refl, sym, ap, _∙_}
 use mathlib.Core.List.{List, [], _∷_, _++_, map, map-append}
 use native.Mathlib.Omega.{arith}

@@ -12,7 +12,7 @@ use Rattle.lines.specs.Lines.{after}
 use Rattle.lines.specs.Puts.{Puts, Room, Low, most}
 use Rattle.lines.proofs.Putting.{puts-append, room-first, room-next}
 
-pub after-append : (items more : List Item) → after (items ++ more) ≡ after items ++ after more
+after-append : (items more : List Item) → after (items ++ more) ≡ after items ++ after more
 after-append [] more = refl
 after-append (item ∷ items) more = ap (λ (l : List Item). text " " ∷ item ∷ l) (after-append items more)
 

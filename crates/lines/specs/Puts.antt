@@ -1,21 +1,15 @@
 -- What the functions of this crate ask of a lent buffer, and what they leave in it.
 use Prim.Native.Nat.{ℕ, _+_, _^_, _≤_, _<_}
-use mathlib.Core.Path.{_≡_}
-use mathlib.Core.List.{List, [], _∷_, _++_}
-use lib.ListN.{length, take, drop, set}
+use mathlib.Core.List.{List, [], _∷_}
+use lib.ListN.{length}
+use Rattle.bytes.specs.Put.{PutsBytes}
 use Rattle.lines.specs.Items.{Item, word, number, Spells}
-
--- The bytes t stand in place of as many from offset o on.
-abbrev pub put : (t : List ℕ) (o : ℕ) → List ℕ → List ℕ
-put t o old = take o old ++ t ++ drop (o + length t) old
 
 -- The items stand in the buffer from offset o up to `end`; the rest is as it came.
 pub record Puts (items : List Item) (o : ℕ) (old new : List ℕ) (end : ℕ) : Type 0 where
   pub spelling : List ℕ
   pub spells : Spells items spelling
-  pub inside : end ≤ length old
-  pub ends : end ≡ o + length spelling
-  pub stands : new ≡ put spelling o old
+  pub stands : PutsBytes spelling o old new end
 
 -- The most bytes that items take, where a number has at most so many digits.
 abbrev pub most : (places : ℕ) → List Item → ℕ
@@ -37,11 +31,6 @@ pub record Room (items : List Item) (o : ℕ) (old : List ℕ) : Type 0 where
   pub inside : o + most places items ≤ length old
 
 -- A digit has room at offset o.
-pub record Digit (digit : ℕ) (o : ℕ) (old : List ℕ) : Type 0 where
+pub record DigitFits (digit : ℕ) (o : ℕ) (old : List ℕ) : Type 0 where
   pub low : digit < 10
   pub inside : o < length old
-
--- One byte stands at offset o.
-pub record PutsByte (byte : ℕ) (o : ℕ) (old new : List ℕ) (end : ℕ) : Type 0 where
-  pub ends : end ≡ o + 1
-  pub stands : new ≡ set old o byte

@@ -1,31 +1,28 @@
 // Lines of words and numbers, written into a lent buffer. Each function writes from an offset on and answers the offset after
 // the last byte that it wrote.
+use bytes::put_byte;
+use bytes::put_bytes;
 ghost use mathlib.Core.Path.{_≡_};
 ghost use mathlib.Core.List.{[], _∷_};
+ghost use Rattle.bytes.specs.Put.{PutsBytes};
 ghost use Rattle.lines.specs.Decimal.{glyph};
 ghost use Rattle.lines.specs.Items.{number, numbers};
 ghost use Rattle.lines.specs.Items.{word as a-word};
 ghost use Rattle.lines.specs.Lines.{after, line};
-ghost use Rattle.lines.specs.Puts.{Room, Puts, Digit, PutsByte};
+ghost use Rattle.lines.specs.Puts.{Room, Puts, DigitFits};
 
 pub fn put_word(text: &mut [u8], at: usize, word: &[u8]) -> usize
     requires { ⌜ Room (a-word (now word) ∷ []) at (now text) ⌝ }
     ensures { λ r. ⌜ Puts (a-word (now (word .entry)) ∷ []) at (now (text .entry)) (now (text .exit)) r ⌝ }
 {
-    let mut i = 0;
-    while i < word.len() {
-        text[at + i] = word[i];
-        i += 1;
-    }
-    at + i
+    put_bytes(text, at, word)
 }
 
 fn put_digit(text: &mut [u8], at: usize, digit: u64) -> usize
-    requires { ⌜ Digit digit at (now text) ⌝ }
-    ensures { λ r. ⌜ PutsByte (glyph digit) at (now (text .entry)) (now (text .exit)) r ⌝ }
+    requires { ⌜ DigitFits digit at (now text) ⌝ }
+    ensures { λ r. ⌜ PutsBytes (glyph digit ∷ []) at (now (text .entry)) (now (text .exit)) r ⌝ }
 {
-    text[at] = b'0' + digit as u8;
-    at + 1
+    put_byte(text, at, b'0' + digit as u8)
 }
 
 fn put_digits(text: &mut [u8], at: usize, x: u64) -> usize

@@ -16,7 +16,7 @@ use Rattle.modular.specs.FactorList.{Rising, powers, FactorList}
 use Rattle.modular.proofs.Factors.{listed, powers-some, rising-same}
 
 -- The product of k odd numbers above an odd n.
-unfoldable pub odds : ℕ → ℕ → ℕ
+unfoldable odds : ℕ → ℕ → ℕ
 odds zero n = 1
 odds (suc k) n = (n + 2) * odds k (n + 2)
 
@@ -54,11 +54,11 @@ least k (p ∷ ps) (e ∷ es) r h =
     mul-le-mul {n₁ = 2} {n₂ = p ^ e} (omega (arith, r .0 .prime .two, first-power p e (omega (arith, r .0 .above)) (r .0 .exponent)))
     (rising-odds k 1 p ps es refl (omega (arith, r .0 .above)) (r .0 .prime .two) (r .1) (omega arith))
 
-pub most-entries : (k : ℕ) {m : ℕ} {ps es : List ℕ} → m < 2 * odds k 1 → FactorList m ps es → length ps ≤ k
-most-entries k {m} {ps} {es} h f = elim (decLe (length ps) k) [ yes l ↦ l | no l ↦ absurd (omega (arith, f .product, least k ps es (f .rising) (omega arith))) ]
+entries-within : (k : ℕ) {m : ℕ} {ps es : List ℕ} → m < 2 * odds k 1 → FactorList m ps es → length ps ≤ k
+entries-within k {m} {ps} {es} h f = elim (decLe (length ps) k) [ yes l ↦ l | no l ↦ absurd (omega (arith, f .product, least k ps es (f .rising) (omega arith))) ]
 
-pub most-exponent : (k : ℕ) {m : ℕ} {ps es : List ℕ} → m < 2 ^ suc k → FactorList m ps es → (i : ℕ) → at es i ≤ k
-most-exponent k {m} {ps} {es} h f i = elim (decLt i (length ps)) [ yes l ↦ inside l | no l ↦ omega (arith, at-past es i (omega (arith, rising-same 0 ps es (f .rising)))) ]
+exponents-within : (k : ℕ) {m : ℕ} {ps es : List ℕ} → m < 2 ^ suc k → FactorList m ps es → (i : ℕ) → at es i ≤ k
+exponents-within k {m} {ps} {es} h f i = elim (decLt i (length ps)) [ yes l ↦ inside l | no l ↦ omega (arith, at-past es i (omega (arith, rising-same 0 ps es (f .rising)))) ]
   where
     inside : i < length ps → at es i ≤ k
     inside l =
@@ -68,7 +68,7 @@ most-exponent k {m} {ps} {es} h f i = elim (decLt i (length ps)) [ yes l ↦ ins
 -- "One to seven entries suffice .. No exponent exceeds 19." (document 01, Ring, pattern, readings)
 pub seven-entries : {m : ℕ} {ps es : List ℕ} → m ≤ 1000000 → FactorList m ps es → length ps ≤ 7
 unfolding odds
-seven-entries h f = most-entries 7 (omega arith) f
+seven-entries h f = entries-within 7 (omega arith) f
 
 pub nineteen : {m : ℕ} {ps es : List ℕ} → m ≤ 1000000 → FactorList m ps es → (i : ℕ) → at es i ≤ 19
-nineteen h f i = most-exponent 19 (omega arith) f i
+nineteen h f i = exponents-within 19 (omega arith) f i

@@ -19,7 +19,7 @@ head-divides p zero r h = omega arith
 head-divides p (suc e) r h = ap (λ (x : ℕ). x % p) (ap (λ (x : ℕ). x * r) (pow-succ' p e) ∙ mul-assoc p (p ^ e) r) ∙ mul-mod-right p (p ^ e * r)
 
 -- A prime at or below `before` does not.
-pub before-divides-not : (before q : ℕ) (ps es : List ℕ) → Prime q → q ≤ before → Rising before ps es → powers ps es % q ≢ 0
+before-divides-not : (before q : ℕ) (ps es : List ℕ) → Prime q → q ≤ before → Rising before ps es → powers ps es % q ≢ 0
 before-divides-not before q [] [] pr h r z = omega (arith, z, mod-eq-of-lt (pr .two))
 before-divides-not before q [] (e ∷ es) pr h r z = r
 before-divides-not before q (p ∷ ps) [] pr h r z = r
@@ -43,7 +43,7 @@ strip p (suc a) (suc b) x y pr hx hy e =
     out a x = ap (λ (z : ℕ). z * x) (pow-succ' p a) ∙ mul-assoc p (p ^ a) x
 
 -- Two rising lists with one product are one list.
-pub rising-one : (before before′ : ℕ) (ps es ps′ es′ : List ℕ) → Rising before ps es → Rising before′ ps′ es′ → powers ps es ≡ powers ps′ es′ → (ps ≡ ps′) × (es ≡ es′)
+rising-one : (before before′ : ℕ) (ps es ps′ es′ : List ℕ) → Rising before ps es → Rising before′ ps′ es′ → powers ps es ≡ powers ps′ es′ → (ps ≡ ps′) × (es ≡ es′)
 rising-one b b′ [] [] [] [] r s e = (refl, refl)
 rising-one b b′ [] [] (p ∷ ps) (x ∷ es) r s e = absurd (before-divides-not p p [] [] (s .0 .prime) (omega arith) tt (ap (λ (z : ℕ). z % p) e ∙ head-divides p x _ (s .0 .exponent)))
 rising-one b b′ (p ∷ ps) (x ∷ es) [] [] r s e = absurd (before-divides-not p p [] [] (r .0 .prime) (omega arith) tt (ap (λ (z : ℕ). z % p) (sym e) ∙ head-divides p x _ (r .0 .exponent)))

@@ -36,7 +36,7 @@ module _ (ps es : List ℕ) (i : ℕ) (hp : i < length ps) (he : i < length es) 
   pub left-join : {before : ℕ} → FactorEntry before (at ps i) (at es i) → Left (at ps i) ps es (i + 1) → Left before ps es i
   left-join {before} e l = subst (λ (T : Type 0). T) (sym (first before)) (e, l)
 
-  pub powers-first : powers (drop i ps) (drop i es) ≡ at ps i ^ at es i * powers (drop (i + 1) ps) (drop (i + 1) es)
+  powers-first : powers (drop i ps) (drop i es) ≡ at ps i ^ at es i * powers (drop (i + 1) ps) (drop (i + 1) es)
   powers-first = rw (add-one i, drop-cons ps i 0, drop-cons es i 0)
 
 -- After i entries.
@@ -44,7 +44,7 @@ module _ (ps es : List ℕ) (i : ℕ) (hp : i ≡ length ps) (he : i ≡ length 
   pub left-none : (before : ℕ) → Left before ps es i
   left-none before = rw (hp, drop-length ps, sym hp, he, drop-length es) tt
 
-  pub powers-none : powers (drop i ps) (drop i es) ≡ 1
+  powers-none : powers (drop i ps) (drop i es) ≡ 1
   powers-none = rw (hp, drop-length ps)
 
 -- The product of the first i powers is x, or both are above m.

@@ -13,13 +13,13 @@ use Rattle.modular.specs.declared.inverse.Found.{Found}
 use Rattle.modular.specs.declared.inverse.Found.the-variants.{Inverse, Shares}
 
 -- z = z (y w) = w (y z) = w modulo m.
-pub inverse-one : {m y z w : ℕ} → InverseOf m y z → InverseOf m y w → z ≡ w
+inverse-one : {m y z w : ℕ} → InverseOf m y z → InverseOf m y w → z ≡ w
 inverse-one {m} {y} {z} {w} a b = sym (times z w a b) ∙ ap (λ (x : ℕ). x % m) (omega arith) ∙ times w z b a
   where
     times : (z w : ℕ) → InverseOf m y z → InverseOf m y w → z * (y * w) % m ≡ z
     times z w a b = sym (mul-mod z (y * w) m) ∙ ap (λ (x : ℕ). z * x % m) (b .product) ∙ ap (λ (x : ℕ). x % m) (mul-one z) ∙ mod-eq-of-lt (a .low)
 
-pub gcd-one : {a b d e : ℕ} → Gcd a b d → Gcd a b e → d ≡ e
+gcd-one : {a b d e : ℕ} → Gcd a b d → Gcd a b e → d ≡ e
 gcd-one {a} {b} {d} {e} g h = dvd-antisymm (h .greatest d (g .left) (g .right)) (g .greatest e (h .left) (h .right))
 
 pub inverse-shares : {m y z d : ℕ} → InverseOf m y z → Shared m y d → ⊥

@@ -1,5 +1,5 @@
--- Trial division; extended Euclid on numbers and what it finds; primes in products; factor lists: only one, how long, decided, checked entry by entry;
--- Shoup's quotient; loops over rows; doublings.
+-- Trial division; extended Euclid on numbers and what it finds; primes in products; factor lists: every number has one, and only one, how long, tested, checked entry by entry;
+-- doublings.
 pub mod Trial
 pub mod Euclid
 pub mod Inverses
@@ -7,8 +7,7 @@ pub mod Divisions
 pub mod Primes
 pub mod Factors
 pub mod Entries
-pub mod Decide
+pub mod HasList
+pub mod FactorTest
 pub mod Faults
-pub mod Shoup
-pub mod Rows
 pub mod Doublings

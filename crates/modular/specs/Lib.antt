@@ -2,8 +2,7 @@ pub mod Prime
 pub mod Inverse
 pub mod Gcd
 pub mod Finds
-pub mod Row
-pub mod Near
 pub mod Rounds
 pub mod FactorList
+pub mod FactorTest
 pub mod FactorFault

@@ -1,5 +1,5 @@
 ghost use Prim.Native.Nat.{_<_};
-ghost use Rattle.modular.specs.Inverse.{InverseOf, Nonzero};
+ghost use Rattle.modular.specs.Inverse.{InverseOf, Nonzero, Lead};
 ghost use Rattle.modular.specs.Finds.{Finds};
 
 // The inverse of a number, or the greatest common divisor with the modulus where there is none.
@@ -44,4 +44,15 @@ pub fn inverse_mod_prime(y: u32, p: u32) -> u32
         Found::Inverse(z) => z,
         Found::Shares(_) => 0,
     }
+}
+
+// What is found of the inverse of a leading number. prime: the modulus is known to be a prime.
+pub fn lead_inverse(y: u32, m: u32, prime: bool) -> Found
+    requires { ⌜ Lead m y prime ⌝ }
+    ensures { λ r. ⌜ Finds m y r ⌝ }
+{
+    if prime {
+        return Found::Inverse(inverse_mod_prime(y, m));
+    }
+    inverse(y, m)
 }

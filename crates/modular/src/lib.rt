@@ -7,9 +7,6 @@ pub mod prime;
 // The inverse of a number.
 pub mod inverse;
 
-// Rows of numbers: multiples by a fixed factor, with no division for an entry.
-pub mod row;
-
 // Powers: the rounds of doubling that reach an exponent.
 pub mod power;
 

@@ -1,1 +1,3 @@
 pub mod Takes
+pub mod Number
+pub mod Solution

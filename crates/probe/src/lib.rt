@@ -1,7 +1,7 @@
 // Numbers and polynomials modulo p for the comparison and the benchmark: each function asks nothing, and answers "refused" where the one behind it
 // asks for more.
-use answer::Check;
-use answer::check_coefficient;
+use euclid::Outcome;
+use euclid::euclid;
 use limits::MOST_ENTRIES;
 use limits::MOST_MODULUS;
 use modular::factor::factor_fault;
@@ -9,15 +9,14 @@ use modular::inverse::Found;
 use modular::inverse::inverse;
 use modular::power::rounds;
 use modular::prime::is_prime;
-use poly::euclid::Outcome;
-use poly::euclid::euclid;
 ghost use mathlib.Core.Path.{_≡_};
-ghost use mathlib.Core.Bool.{true};
 ghost use Rattle.modular.specs.Prime.{TellsPrime};
 ghost use Rattle.modular.specs.FactorList.{FactorList};
 ghost use Rattle.modular.specs.FactorFault.{Fault};
 ghost use Rattle.modular.specs.Rounds.{Rounds};
-ghost use Rattle.probe.specs.Takes.{Takes};
+ghost use Rattle.probe.specs.Takes.{AllBelow, Takes, Tells};
+ghost use Rattle.probe.specs.Number.{TellsInverse};
+ghost use Rattle.probe.specs.Solution.{solution, TellsSolution};
 
 const DONE: u32 = 0;
 
@@ -47,7 +46,9 @@ pub struct Number {
 }
 
 #[no_mangle]
-pub extern "C" fn probe_inverse(y: u32, m: u32) -> Number {
+pub extern "C" fn probe_inverse(y: u32, m: u32) -> Number
+    ensures { λ r. ⌜ TellsInverse y m r ⌝ }
+{
     if m < 2 {
         return Number {
             kind: REFUSED,
@@ -81,7 +82,9 @@ pub struct Solution {
     pub degree: usize,
 }
 
-fn told(kind: u32, degree: usize) -> Solution {
+fn told(kind: u32, degree: usize) -> Solution
+    ensures { λ r. ⌜ r ≡ solution kind degree ⌝ }
+{
     Solution {
         kind,
         zero: 0,
@@ -89,9 +92,23 @@ fn told(kind: u32, degree: usize) -> Solution {
     }
 }
 
+// Whether all entries are below p.
+fn all_below(f: &[u32], p: u32) -> bool
+    ensures { λ r. ⌜ Tells (AllBelow p (now (f .entry))) r ⌝ }
+{
+    let mut k = 0;
+    while k < f.len() {
+        if p <= f[k] {
+            return false;
+        }
+        k += 1;
+    }
+    true
+}
+
 // Whether f modulo p is what the extended Euclid takes.
 fn solvable(f: &[u32], p: u32, room: usize) -> bool
-    ensures { λ r. ⌜ (r ≡ true → Takes (now (f .entry)) p room) ⌝ }
+    ensures { λ r. ⌜ Tells (Takes (now (f .entry)) p room) r ⌝ }
 {
     let n = f.len();
     if n == 0 {
@@ -107,22 +124,20 @@ fn solvable(f: &[u32], p: u32, room: usize) -> bool
         return false;
     }
     if is_prime(p) {
-        return match check_coefficient(f, p, 1) {
-            Check::Passed => true,
-            Check::Refused(_) => false,
-        };
+        return all_below(f, p);
     }
     false
 }
 
 #[no_mangle]
-pub extern "C" fn probe_euclid(f: &[u32], p: u32, out: &mut [u32]) -> Solution {
+pub extern "C" fn probe_euclid(f: &[u32], p: u32, out: &mut [u32]) -> Solution
+    ensures { λ r. ⌜ TellsSolution (now (f .entry)) p (now (out .entry)) (now (out .exit)) r ⌝ }
+{
     if solvable(f, p, out.len()) {
-        match euclid(f, p, out) {
+        return match euclid(f, p, out) {
             Outcome::Inverted => told(DONE, 0),
             Outcome::Shared(degree) => told(OTHER, degree),
-        }
-    } else {
-        told(REFUSED, 0)
+        };
     }
+    told(REFUSED, 0)
 }

@@ -1,5 +1,2 @@
-pub mod Rooms
 pub mod Displaying
 pub mod Reading
-pub mod OneAnswer
-pub mod FirstBytes

@@ -1,5 +1,1 @@
-pub mod Held
-pub mod Outcome
-pub mod Page
-pub mod Report
 pub mod Inner

@@ -1,14 +1,15 @@
 -- Chinese remaindering, entry by entry (000, Lemma 3.1): inverses modulo m₁ and m₂ make one modulo m₁ m₂, where u m₂ + v m₁ is 1 modulo m₁ m₂.
--- A multiple of m₂ carries only what stands modulo m₁, so u m₂ g₁ + v m₁ g₂ mixed with f is u m₂ + v m₁. Assumes nothing.
-use Prim.Native.Nat.{ℕ, _+_, _*_, _%_, _/_, _<_}
-use mathlib.Core.Path.{_≡_, sym, ap, _∙_}
+-- A multiple of m₂ carries only what stands modulo m₁, so u m₂ g₁ + v m₁ g₂ mixed with f is u m₂ + v m₁. And the same with one inverse z of a number alone:
+-- z M and q M + 1 - z M are 1 and 0 modulo q, 0 and 1 modulo M. Assumes nothing.
+use Prim.Native.Nat.{ℕ, _+_, _*_, _-_, _%_, _/_, _≤_, _<_}
+use mathlib.Core.Path.{_≡_, sym, ap, _∙_, subst}
 use mathlib.Core.List.{List}
 use native.Mathlib.Omega.{arith}
-use native.Mathlib.Nat.{dvd-mul-right, div-add-mod, add-mul-mod-self-left, mul-comm}
+use native.Mathlib.Nat.{dvd-mul-right, div-add-mod, add-mul-mod-self-left, mul-comm, mod-one, mod-add-mod, add-mod-mod, add-mod-left, mul-pos, mul-sub, mul-le-mul-right, le-of-mul-le-mul-left}
 use Rattle.sums.specs.Table.{at, table}
-use Rattle.sums.proofs.Tables.{table-eq, table-inj}
+use Rattle.sums.proofs.Tables.{at-table, length-table, table-eq, table-inj}
 use Rattle.ring.specs.Mix.{mix}
-use Rattle.ring.specs.One.{one}
+use Rattle.ring.specs.One.{one, zeros}
 use Rattle.ring.specs.Entrywise.{add, scale}
 use Rattle.ring.specs.Reduce.{reduce}
 use Rattle.ring.specs.Inverse.{Inverse}
@@ -48,3 +49,43 @@ glue-inverse n m₁ m₂ u v f {g₁} {g₂} z e a b = record {
   where
     other : mix n (m₁ * m₂) f (scale n (m₁ * m₂) (v * m₁) g₂) ≡ scale n (m₁ * m₂) (v * m₁) (one n (m₁ * m₂))
     other = rw (mul-comm m₁ m₂) (half n m₂ m₁ v f g₂ (b .product))
+
+-- ---- with z the inverse of M modulo q: g₁ is taken modulo q, g₂ modulo M
+
+unfoldable pub joined : (n q M z : ℕ) → List ℕ → List ℕ → List ℕ
+joined n q M z g₁ g₂ = table n (λ k. (z * M * at g₁ k + (q * M + 1 - z * M) * at g₂ k) % (q * M))
+
+module _ (n q M z : ℕ) (some : 0 < M) (low : z < q) (unit : M * z % q ≡ 1) where
+  abbrev t : ℕ
+  t = M * z / q
+
+  whole : q * t + 1 ≡ z * M
+  whole = omega (arith, div-add-mod (M * z) q, unit)
+
+  factor-low : z * M ≤ q * M
+  factor-low = mul-le-mul-right M (omega arith)
+
+  fits : t ≤ M
+  fits = le-of-mul-le-mul-left {k = q} (omega (arith, whole, factor-low)) (omega arith)
+
+  second : q * M + 1 - z * M ≡ (M - t) * q
+  second = omega (arith, whole, fits, mul-sub q M t)
+
+  -- The second factor is a multiple of q.
+  same : (g₁ g₂ : List ℕ) → glued n q M z (M - t) g₁ g₂ ≡ joined n q M z g₁ g₂
+  unfolding glued joined add scale
+  same g₁ g₂ = table-eq n _ _ λ k h.
+      simp (at-table, mod-add-mod, add-mod-mod) (ap (λ (x : ℕ). (z * M * at g₁ k + x * at g₂ k) % (q * M)) (sym second))
+
+  pub join-inverse : (f : List ℕ) {g₁ g₂ : List ℕ} → Inverse n q f g₁ → Inverse n M f g₂ → Inverse n (q * M) f (joined n q M z g₁ g₂)
+  join-inverse f {g₁} {g₂} a b =
+      subst (Inverse n (q * M) f) (same g₁ g₂)
+      (glue-inverse n q M z (M - t) f (mul-pos (omega arith) some) (ap (λ (x : ℕ). x % (q * M)) (omega (arith, second, factor-low)) ∙ add-mod-left (q * M) 1) a b)
+
+-- Nothing is joined yet: modulo 1 every pattern has the inverse 0.
+pub inverse-none : (n : ℕ) (f : List ℕ) → Inverse n 1 f (zeros n)
+unfolding mix one zeros
+inverse-none n f = record {
+  ring = record { long = length-table n _; low = λ i h. rw (at-table n (λ _. 0) i h) (omega arith) };
+  product = table-eq n _ _ (λ k h. mod-one _ ∙ sym (mod-one _));
+}

@@ -1,10 +1,7 @@
-pub mod Bytes
+pub mod Entries
 pub mod Steps
-pub mod Passes
-pub mod Walks
-pub mod Sound
-pub mod Table
-pub mod Joined
+pub mod Turns
+pub mod Parts
 pub mod Written
+pub mod FirstBytes
 pub mod OneAnswer
-pub mod Beyond

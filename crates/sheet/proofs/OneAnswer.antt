@@ -5,7 +5,7 @@ use mathlib.Core.Path.{_≡_, sym, _∙_}
 use mathlib.Core.List.{List}
 use denote.Ref.{RefT, now}
 use Rattle.sheet.specs.Sheets.{sheet-of, IsPart}
-use Rattle.sheet.specs.declared.Part.{Part}
+use Rattle.fields.specs.declared.Part.{Part}
 use Rattle.sheet.specs.declared.Sheet.{Sheet}
 
 pub one-sheet : (s : List ℕ) {a b : Sheet} → a ≡ sheet-of s → b ≡ sheet-of s → a ≡ b

@@ -7,18 +7,20 @@ use native.Mathlib.Omega.{arith}
 use borrow.Author.Tests.{lt-leb, le-leb, ltb-false}
 use lib.Dec.{ltb}
 use lib.ListN.{length}
-use Rattle.answer.specs.Checks.{refuse-if}
-use Rattle.answer.specs.Order.{first}
+use Rattle.limits.specs.Limits.{header-bytes}
+use Rattle.answer.specs.Refuse.{refuse-if}
+use Rattle.answer.specs.First.{first}
 use Rattle.answer.specs.declared.Case.the-variants.{Cut, Missing}
 use Rattle.answer.specs.declared.Check.{Check}
 use Rattle.answer.specs.declared.Check.the-variants.{Passed, Refused}
 use Rattle.answer.specs.declared.Refusal.{Refusal}
-use Rattle.sheet.specs.Fields.{Field, header-bytes, tag-at, length-at, version-of}
-use Rattle.sheet.specs.Tags.{tags, lacks}
-use Rattle.sheet.specs.Checks.{above-tags, value-order, field-order}
-use Rattle.sheet.specs.Steps.{header, kept, step}
-use Rattle.sheet.specs.declared.Header.the-variants.{Short, Whole}
-use Rattle.sheet.specs.declared.Fields as declared
+use Rattle.fields.specs.Fields.{Field, tag-at, length-at, version-of}
+use Rattle.fields.specs.Tags.{tags, lacks}
+use Rattle.fields.specs.Checks.{above-tags, value-order, field-order}
+use Rattle.fields.specs.Kept.{header, kept}
+use Rattle.sheet.specs.Steps.{step}
+use Rattle.fields.specs.declared.Header.the-variants.{Short, Whole}
+use Rattle.fields.specs.declared.Fields as declared
 
 -- ---- the header
 
@@ -43,9 +45,9 @@ module _ (s : List ℕ) (o : ℕ) where
 -- ---- the step
 
 module _ (s : List ℕ) (come : List Field) (o : ℕ) {found : declared.Fields} (is : found ≡ kept come) where
-  pub step-end : o ≤ length s → length s ≤ o → {check : Check} → check ≡ refuse-if (lacks (tags (version-of s come)) come above-tags) Missing 0 o
+  pub step-end : o ≤ length s → length s ≤ o → {version : ℕ} → version ≡ version-of s come → {check : Check} → check ≡ refuse-if (lacks (tags version) come above-tags) Missing 0 o
       → record { at = o; found = found; check = check; going = false } ≡ step s come o
-  step-end h k e = let d : o ≡ length s = omega arith in rw (le-leb (length s) o k, is, e, d)
+  step-end h k v e = let d : o ≡ length s = omega arith in rw (le-leb (length s) o k, is, e, d, v)
 
   pub step-short : o < length s → header s o ≡ Short → {check : Check} → check ≡ refuse-if true Cut 0 o → record { at = o; found = found; check = check; going = false } ≡ step s come o
   unfolding field-order

@@ -1,49 +1,23 @@
 -- A version 1 sheet written from its values reads back as exactly those values, and as without readings where there are none (what a writer of
 -- sheets needs). Its fields are well-formed, and each value stands where its part is told. Assumes nothing.
-use Prim.Native.Nat.{ℕ, _+_, _%_, _≤_}
+use Prim.Native.Nat.{ℕ, _+_}
 use mathlib.Core.Path.{_≡_, refl, sym, ap, _∙_}
-use mathlib.Core.Bool.{true}
 use mathlib.Core.List.{List, [], _∷_, _++_, append-assoc}
 use mathlib.Core.Option.{Option, none, some}
 use native.Mathlib.Omega.{arith}
 use lib.ListN.{length, take, drop, length-append}
-use Rattle.answer.specs.declared.Check.the-variants.{Passed}
-use Rattle.sheet.specs.Numbers.{big-endian}
-use Rattle.sheet.specs.Fields.{Field, header-bytes, absent, part-of}
-use Rattle.sheet.specs.Tags.{tags}
-use Rattle.sheet.specs.Walk.{accepted}
-use Rattle.sheet.specs.Joined.{Value, field-bytes, joined, placed, all-placed, version-1}
-use Rattle.sheet.specs.Sheets.{told, sheet-of, bytes-of}
-use Rattle.sheet.specs.declared.Part.{Part}
-use Rattle.sheet.specs.declared.Sheet.{Sheet}
-use Rattle.sheet.proofs.Bytes.{in-part}
-use Rattle.sheet.proofs.Joined.{Fits, WellFormed, value-stands, accepted-joined}
-use Rattle.sheet.proofs.Table.{right-modulus, right-factors, right-pattern, right-readings}
-
--- The lengths of document 01's table.
-abbrev ReadingsFit : (pattern : List ℕ) → Option (List ℕ) → Type 0
-ReadingsFit pattern none = Unit {0}
-ReadingsFit pattern (some readings) = length readings ≡ length pattern
-
-pub record Lengths (modulus factors pattern : List ℕ) (readings : Option (List ℕ)) : Type 0 where
-  pub four : length modulus ≡ 4
-  pub fives : length factors % 5 ≡ 0
-  pub few : length factors ≤ 35
-  pub fours : length pattern % 4 ≡ 0
-  pub small : length pattern ≤ 4096
-  pub same : ReadingsFit pattern readings
-
--- What reads back.
-abbrev ReadingsBack : (s : List ℕ) → Part → Option (List ℕ) → Type 0
-ReadingsBack s part none = part ≡ absent
-ReadingsBack s part (some readings) = (part .present ≡ true) × (bytes-of s part ≡ readings)
-
-pub record Back (s : List ℕ) (sheet : Sheet) (modulus factors pattern : List ℕ) (readings : Option (List ℕ)) : Type 0 where
-  pub verdict : sheet .verdict ≡ Passed
-  pub modulus-is : sheet .modulus ≡ big-endian 4 modulus 0
-  pub factors-are : bytes-of s (sheet .factors) ≡ factors
-  pub pattern-is : bytes-of s (sheet .pattern) ≡ pattern
-  pub readings-are : ReadingsBack s (sheet .readings) readings
+use Rattle.limits.specs.Limits.{header-bytes}
+use Rattle.bytes.specs.Numbers.{big-endian}
+use Rattle.fields.specs.Fields.{Field, part-of}
+use Rattle.fields.specs.Tags.{tags}
+use Rattle.fields.specs.Walk.{accepted}
+use Rattle.fields.specs.WellFormed.{Fits, WellFormed}
+use Rattle.fields.specs.Joined.{Value, field-bytes, joined, placed, all-placed}
+use Rattle.sheet.specs.Sheets.{told, sheet-of}
+use Rattle.sheet.specs.Written.{version-1, ReadingsFit, Lengths, Back}
+use Rattle.bytes.proofs.Numbers.{in-part}
+use Rattle.fields.proofs.Joined.{value-stands, accepted-joined}
+use Rattle.fields.proofs.Rows.{row-fits}
 
 -- ---- each value stands where its field is placed
 
@@ -80,19 +54,19 @@ module _ (modulus factors pattern : List ℕ) (readings : Option (List ℕ)) (h 
 
   modulus-fits : Fits 1 come₁ (record { tag = 2; bytes = modulus })
   unfolding tags part-of
-  modulus-fits = record { fits = right-modulus 1 come₁ (h .four); above = omega arith; complete = refl; short = omega arith; tells = λ e. absurd (omega arith) }
+  modulus-fits = record { fits = row-fits come₁ 2 (length modulus) (tags 1) (h .four); above = omega arith; complete = refl; short = omega arith; tells = λ e. absurd (omega arith) }
 
   factors-fit : Fits 1 come₂ (record { tag = 3; bytes = factors })
   unfolding tags part-of
-  factors-fit = record { fits = right-factors 1 come₂ (h .fives) (h .few); above = omega arith; complete = refl; short = omega arith; tells = λ e. absurd (omega arith) }
+  factors-fit = record { fits = row-fits come₂ 3 (length factors) (tags 1) (h .fives, h .few); above = omega arith; complete = refl; short = omega arith; tells = λ e. absurd (omega arith) }
 
   pattern-fits : Fits 1 come₃ (record { tag = 4; bytes = pattern })
   unfolding tags part-of
-  pattern-fits = record { fits = right-pattern 1 come₃ (h .fours) (h .small); above = omega arith; complete = refl; short = omega arith; tells = λ e. absurd (omega arith) }
+  pattern-fits = record { fits = row-fits come₃ 4 (length pattern) (tags 1) (h .fours, h .small); above = omega arith; complete = refl; short = omega arith; tells = λ e. absurd (omega arith) }
 
   readings-fit : (given : List ℕ) → length given ≡ length pattern → Fits 1 come₄ (record { tag = 5; bytes = given })
   unfolding tags part-of
-  readings-fit given e = record { fits = right-readings 1 come₄ e; above = omega arith; complete = refl; short = omega arith; tells = λ d. absurd (omega arith) }
+  readings-fit given e = record { fits = row-fits come₄ 5 (length given) (tags 1) e; above = omega arith; complete = refl; short = omega arith; tells = λ d. absurd (omega arith) }
 
   all-fit : (r : Option (List ℕ)) → ReadingsFit pattern r → WellFormed 1 [] 0 (version-1 modulus factors pattern r)
   unfolding tags part-of

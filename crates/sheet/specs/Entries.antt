@@ -4,7 +4,7 @@ use Prim.Native.Nat.{ℕ, _+_, _*_, _/_, _≤_}
 use mathlib.Core.List.{List}
 use lib.ListN.{length}
 use Rattle.sums.specs.Table.{at, table}
-use Rattle.sheet.specs.Numbers.{big-endian}
+use Rattle.bytes.specs.Numbers.{big-endian}
 
 -- Number i, where each stands `step` bytes after the one before.
 abbrev pub number-of : (step : ℕ) (part : List ℕ) (i : ℕ) → ℕ
@@ -24,6 +24,6 @@ abbrev pub exponents-of : (part : List ℕ) → List ℕ
 exponents-of part = table (length part / 5) (exponent-of part)
 
 -- A part holds so many numbers.
-pub record Holds (part : List ℕ) (step count : ℕ) : Type 0 where
+pub record HoldsNumbers (part : List ℕ) (step count : ℕ) : Type 0 where
   pub wide : 4 ≤ step
   pub whole : count * step ≤ length part

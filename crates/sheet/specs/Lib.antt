@@ -1,9 +1,5 @@
-pub mod Numbers
-pub mod Fields
-pub mod Tags
-pub mod Checks
-pub mod Walk
 pub mod Steps
 pub mod Sheets
 pub mod Entries
-pub mod Joined
+pub mod Held
+pub mod Written

@@ -6,10 +6,10 @@ use mathlib.Core.List.{List}
 use lib.ListN.{take, drop}
 use denote.Ref.{RefT, now}
 use Rattle.answer.specs.declared.Check.the-variants.{Passed, Refused}
-use Rattle.sheet.specs.Numbers.{big-endian}
-use Rattle.sheet.specs.Fields.{absent, part-of}
-use Rattle.sheet.specs.Walk.{Reading, accepted, refused, reading}
-use Rattle.sheet.specs.declared.Part.{Part}
+use Rattle.bytes.specs.Numbers.{big-endian}
+use Rattle.fields.specs.Fields.{absent, part-of}
+use Rattle.fields.specs.Walk.{Reading, accepted, refused, reading}
+use Rattle.fields.specs.declared.Part.{Part}
 use Rattle.sheet.specs.declared.Sheet.{Sheet}
 
 abbrev pub told : (s : List ℕ) → Reading → Sheet

@@ -1,39 +1,19 @@
 -- What the functions below the reader find, one field at a time.
-use Prim.Native.Nat.{ℕ, _-_, _≤_}
+use Prim.Native.Nat.{ℕ, _≤_}
 use mathlib.Core.Path.{_≡_}
 use mathlib.Core.Bool.{true, false, cond}
 use mathlib.Core.List.{List, _∷_}
-use lib.Dec.{ltb, leb}
+use lib.Dec.{leb}
 use lib.ListN.{length}
-use Rattle.answer.specs.Order.{first}
+use Rattle.answer.specs.First.{first}
 use Rattle.answer.specs.declared.Check.{Check}
 use Rattle.answer.specs.declared.Check.the-variants.{Passed, Refused}
-use Rattle.sheet.specs.Fields.{Field, header-bytes, tag-at, length-at, field-at, next-at, last-tag, part-of}
-use Rattle.sheet.specs.Checks.{field-order, end-check}
-use Rattle.sheet.specs.Walk.{accepted, unless, reading}
-use Rattle.sheet.specs.declared.Header.{Header}
-use Rattle.sheet.specs.declared.Header.the-variants.{Short, Whole}
-use Rattle.sheet.specs.declared.Fields as declared
+use Rattle.fields.specs.Fields.{Field, field-at, next-at}
+use Rattle.fields.specs.Checks.{field-order, end-check}
+use Rattle.fields.specs.Walk.{accepted, unless, reading}
+use Rattle.fields.specs.Kept.{kept}
+use Rattle.fields.specs.declared.Fields as declared
 use Rattle.sheet.specs.declared.Step.{Step}
-
--- The header of the field at offset o.
-abbrev pub header : (s : List ℕ) (o : ℕ) → Header
-header s o = cond (ltb (length s - o) header-bytes) Short (Whole (tag-at s o) (length-at s o))
-
--- Fields that have come, as the code keeps them.
-abbrev pub kept : List Field → declared.Fields
-kept come = record {
-  last = last-tag come;
-  version = part-of come 1;
-  modulus = part-of come 2;
-  factors = part-of come 3;
-  pattern = part-of come 4;
-  readings = part-of come 5;
-}
-
--- What holds whichever fields have come that the code keeps so.
-abbrev pub WhenKept : declared.Fields → (List Field → Type 0) → Type 0
-WhenKept found holds = (come : List Field) → found ≡ kept come → holds come
 
 -- The code stands at offset o of the sheet s with what it has found.
 pub record Reached (s : List ℕ) (o : ℕ) (found : declared.Fields) : Type 0 where

@@ -8,6 +8,7 @@ use native.Mathlib.Decide.{decLt}
 use native.Mathlib.Numerals.{add-one}
 use native.Mathlib.Nat.{mod-lt}
 use lib.ListN.{length, List·getD-eq-default}
+use lib.Seq.{ext-getD}
 use Rattle.sums.specs.Table.{at, table}
 
 pub at-past : (l : List ℕ) (i : ℕ) → length l ≤ i → at l i ≡ 0
@@ -48,3 +49,6 @@ pub table-last : (n : ℕ) (f : ℕ → ℕ) → table (n + 1) f ≡ table n f +
 unfolding table
 table-last zero f = refl
 table-last (suc n) f = rw (add-one (suc n)) (ap (λ (l : List ℕ). f 0 ∷ l) (rw (add-one n) at (table-last n (λ k. f (suc k)))))
+
+pub table-self : (l : List ℕ) → table (length l) (at l) ≡ l
+table-self l = ext-getD 0 (table (length l) (at l)) l (length-table (length l) (at l)) (λ i h. at-table (length l) (at l) i (omega (arith, length-table (length l) (at l))))

@@ -6,8 +6,5 @@ use Rattle.answer.proofs.refuse_if.Tie as tie
 returns : tie.Need-returns
 returns c = rw (c .if1 .taken)
 
-returns-2 : tie.Need-returns-2
-returns-2 c = search needs
-
 pub refuse-if-spec : {M : Type 1} → statement M
-refuse-if-spec = tie.close (tie.spec returns returns-2)
+refuse-if-spec = tie.close (tie.spec returns (λ c. search needs))

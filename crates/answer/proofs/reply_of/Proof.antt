@@ -8,24 +8,6 @@ use Rattle.answer.proofs.reply_of.Tie as tie
 enum-told : tie.Need-enum-told
 enum-told c = search needs
 
-with-number-requires : tie.Need-with-number-requires
-with-number-requires c κs = search needs
-
-enum-known-answer : tie.Need-enum-known-answer
-enum-known-answer c = search needs
-
-numbered-requires : tie.Need-numbered-requires
-numbered-requires c κs = search needs
-
-tell-requires : tie.Need-tell-requires
-tell-requires c κs = search needs
-
-enum-known-answer-2 : tie.Need-enum-known-answer-2
-enum-known-answer-2 c = search needs
-
-tell-refusal-requires : tie.Need-tell-refusal-requires
-tell-refusal-requires c κs = search needs
-
 returns : tie.Need-returns
 returns c = c .with-number .ensures ∙ ap reply (sym (c .before .enum-told .given .1))
 
@@ -41,12 +23,12 @@ reply-of-spec =
     tie.close
     (tie.spec
     enum-told
-    with-number-requires
-    enum-known-answer
-    numbered-requires
-    tell-requires
-    enum-known-answer-2
-    tell-refusal-requires
+    (λ c κs. search needs)
+    (λ c. search needs)
+    (λ c κs. search needs)
+    (λ c κs. search needs)
+    (λ c. search needs)
+    (λ c κs. search needs)
     returns
     returns-2
     returns-3)

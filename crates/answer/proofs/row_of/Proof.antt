@@ -8,81 +8,6 @@ use Rattle.answer.proofs.row_of.Tie as tie
 enum-told : tie.Need-enum-told
 enum-told c = search needs
 
-numbered-requires : tie.Need-numbered-requires
-numbered-requires c κs = search needs
-
-enum-told-2 : tie.Need-enum-told-2
-enum-told-2 c = search needs
-
-numbered-requires-2 : tie.Need-numbered-requires-2
-numbered-requires-2 c κs = search needs
-
-enum-told-3 : tie.Need-enum-told-3
-enum-told-3 c = search needs
-
-numbered-requires-3 : tie.Need-numbered-requires-3
-numbered-requires-3 c κs = search needs
-
-enum-told-4 : tie.Need-enum-told-4
-enum-told-4 c = search needs
-
-numbered-requires-4 : tie.Need-numbered-requires-4
-numbered-requires-4 c κs = search needs
-
-enum-told-5 : tie.Need-enum-told-5
-enum-told-5 c = search needs
-
-numbered-requires-5 : tie.Need-numbered-requires-5
-numbered-requires-5 c κs = search needs
-
-enum-told-6 : tie.Need-enum-told-6
-enum-told-6 c = search needs
-
-numbered-requires-6 : tie.Need-numbered-requires-6
-numbered-requires-6 c κs = search needs
-
-enum-told-7 : tie.Need-enum-told-7
-enum-told-7 c = search needs
-
-numbered-requires-7 : tie.Need-numbered-requires-7
-numbered-requires-7 c κs = search needs
-
-enum-told-8 : tie.Need-enum-told-8
-enum-told-8 c = search needs
-
-numbered-requires-8 : tie.Need-numbered-requires-8
-numbered-requires-8 c κs = search needs
-
-enum-told-9 : tie.Need-enum-told-9
-enum-told-9 c = search needs
-
-numbered-requires-9 : tie.Need-numbered-requires-9
-numbered-requires-9 c κs = search needs
-
-enum-told-10 : tie.Need-enum-told-10
-enum-told-10 c = search needs
-
-numbered-requires-10 : tie.Need-numbered-requires-10
-numbered-requires-10 c κs = search needs
-
-enum-told-11 : tie.Need-enum-told-11
-enum-told-11 c = search needs
-
-numbered-requires-11 : tie.Need-numbered-requires-11
-numbered-requires-11 c κs = search needs
-
-enum-told-12 : tie.Need-enum-told-12
-enum-told-12 c = search needs
-
-numbered-requires-12 : tie.Need-numbered-requires-12
-numbered-requires-12 c κs = search needs
-
-enum-told-13 : tie.Need-enum-told-13
-enum-told-13 c = search needs
-
-numbered-requires-13 : tie.Need-numbered-requires-13
-numbered-requires-13 c κs = search needs
-
 returns : tie.Need-returns
 returns c = c .numbered .ensures ∙ ap refusal-row (sym (c .before .enum-told .given .1))
 
@@ -127,31 +52,31 @@ row-of-spec =
     tie.close
     (tie.spec
     enum-told
-    numbered-requires
-    enum-told-2
-    numbered-requires-2
-    enum-told-3
-    numbered-requires-3
-    enum-told-4
-    numbered-requires-4
-    enum-told-5
-    numbered-requires-5
-    enum-told-6
-    numbered-requires-6
-    enum-told-7
-    numbered-requires-7
-    enum-told-8
-    numbered-requires-8
-    enum-told-9
-    numbered-requires-9
-    enum-told-10
-    numbered-requires-10
-    enum-told-11
-    numbered-requires-11
-    enum-told-12
-    numbered-requires-12
-    enum-told-13
-    numbered-requires-13
+    (λ c κs. search needs)
+    (λ c. search needs)
+    (λ c κs. search needs)
+    (λ c. search needs)
+    (λ c κs. search needs)
+    (λ c. search needs)
+    (λ c κs. search needs)
+    (λ c. search needs)
+    (λ c κs. search needs)
+    (λ c. search needs)
+    (λ c κs. search needs)
+    (λ c. search needs)
+    (λ c κs. search needs)
+    (λ c. search needs)
+    (λ c κs. search needs)
+    (λ c. search needs)
+    (λ c κs. search needs)
+    (λ c. search needs)
+    (λ c κs. search needs)
+    (λ c. search needs)
+    (λ c κs. search needs)
+    (λ c. search needs)
+    (λ c κs. search needs)
+    (λ c. search needs)
+    (λ c κs. search needs)
     returns
     returns-2
     returns-3

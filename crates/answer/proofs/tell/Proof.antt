@@ -9,33 +9,6 @@ use Rattle.answer.proofs.tell.Tie as tie
 enum-told : tie.Need-enum-told
 enum-told c = search needs
 
-with-number-requires : tie.Need-with-number-requires
-with-number-requires c κs = search needs
-
-enum-told-2 : tie.Need-enum-told-2
-enum-told-2 c = search needs
-
-with-number-requires-2 : tie.Need-with-number-requires-2
-with-number-requires-2 c κs = search needs
-
-enum-told-3 : tie.Need-enum-told-3
-enum-told-3 c = search needs
-
-with-number-requires-3 : tie.Need-with-number-requires-3
-with-number-requires-3 c κs = search needs
-
-enum-told-4 : tie.Need-enum-told-4
-enum-told-4 c = search needs
-
-with-number-requires-4 : tie.Need-with-number-requires-4
-with-number-requires-4 c κs = search needs
-
-enum-told-5 : tie.Need-enum-told-5
-enum-told-5 c = search needs
-
-with-number-requires-5 : tie.Need-with-number-requires-5
-with-number-requires-5 c κs = search needs
-
 returns : tie.Need-returns
 returns c =
     let given = c .before .before .before .args in
@@ -66,15 +39,15 @@ tell-spec =
     tie.close
     (tie.spec
     enum-told
-    with-number-requires
-    enum-told-2
-    with-number-requires-2
-    enum-told-3
-    with-number-requires-3
-    enum-told-4
-    with-number-requires-4
-    enum-told-5
-    with-number-requires-5
+    (λ c κs. search needs)
+    (λ c. search needs)
+    (λ c κs. search needs)
+    (λ c. search needs)
+    (λ c κs. search needs)
+    (λ c. search needs)
+    (λ c κs. search needs)
+    (λ c. search needs)
+    (λ c κs. search needs)
     returns
     returns-2
     returns-3

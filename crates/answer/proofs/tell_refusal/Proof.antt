@@ -6,14 +6,8 @@ use borrow.Author.Needs.{needs}
 use Rattle.answer.proofs.tell_refusal.Statement.{statement}
 use Rattle.answer.proofs.tell_refusal.Tie as tie
 
-row-of-requires : tie.Need-row-of-requires
-row-of-requires c κs = search needs
-
-tell-requires : tie.Need-tell-requires
-tell-requires c κs = search needs
-
 returns : tie.Need-returns
 returns c = let r = c .before .before .args .r in c .tell .ensures ∙ ap (λ (row : Row). tell row (r .ring) (r .place) 0) (c .before .row-of .ensures)
 
 pub tell-refusal-spec : {M : Type 1} → statement M
-tell-refusal-spec = tie.close (tie.spec row-of-requires tell-requires returns)
+tell-refusal-spec = tie.close (tie.spec (λ c κs. search needs) (λ c κs. search needs) returns)

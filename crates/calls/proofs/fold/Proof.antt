@@ -6,25 +6,16 @@ use borrow.Author.Needs.{needs}
 use Rattle.calls.proofs.fold.Statement.{statement}
 use Rattle.calls.proofs.fold.Tie as tie
 
-check-fold-requires : tie.Need-check-fold-requires
-check-fold-requires c κs = search needs
-
 enum-told : tie.Need-enum-told
 enum-told c = search needs
 
 fold-parts-requires : tie.Need-fold-parts-requires
 fold-parts-requires c κs = fold-ready _ _ _ (sym (c .before .before .before .check-fold .ensures) ∙ c .before .enum-told .given .1)
 
-enum-known-check : tie.Need-enum-known-check
-enum-known-check c = search needs
-
-same-length : tie.Need-same-length
-same-length c = search needs
-
 returns : tie.Need-returns
-returns c = record {
-  meets = (sym (c .before .before .before .before .before .before .check-fold .ensures) ∙ c .before .before .before .before .enum-told .given .1, c .before .before .fold-parts .ensures);
-}
+returns c =
+    let passed = c .before .before .before .before in
+    record { meets = (sym (passed .before .before .check-fold .ensures) ∙ passed .enum-told .given .1, c .before .before .fold-parts .ensures) }
 
 returns-2 : tie.Need-returns-2
 returns-2 c = record { meets = (sym (c .before .before .before .check-fold .ensures) ∙ c .before .check .given .1, refl) }
@@ -33,10 +24,10 @@ pub fold-spec : {M : Type 1} → statement M
 fold-spec =
     tie.close
     (tie.spec
-    check-fold-requires
+    (λ c κs. search needs)
     enum-told
     fold-parts-requires
-    enum-known-check
-    same-length
+    (λ c. search needs)
+    (λ c. search needs)
     returns
     returns-2)

@@ -24,9 +24,6 @@ Inv-loop a m out₀ step parts k₀ out k = (k ≤ step) × (out ≡ table k (en
 abbrev μ-loop : tie.MeasureT-loop
 μ-loop a m out₀ step parts k₀ out k = step - k
 
-div-parts : tie.Need-div-parts Inv-loop μ-loop
-div-parts c = search needs
-
 loop-holds : tie.Need-loop-holds Inv-loop μ-loop
 loop-holds c = (omega arith, fill-none _ _, refl)
 
@@ -35,40 +32,20 @@ sum-parts-requires c κs =
     let start = c .before .before .before .before in
     record { few = start .pre .few; whole = div-mul-cancel (length (start .args .out .now)) (start .pre .onto); inside = c .loop-test .taken }
 
-wide-requires : tie.Need-wide-requires Inv-loop μ-loop
-wide-requires c κs = search needs
-
-rem-out : tie.Need-rem-out Inv-loop μ-loop
-rem-out c = search needs
-
 cast-out : tie.Need-cast-out Inv-loop μ-loop
 cast-out c = omega (arith, mod-lt (c .before .sum-parts .result) {m = c .wide .result} (omega arith))
 
-mul-out : tie.Need-mul-out Inv-loop μ-loop
-mul-out c = search needs
-
-slice-write-out : tie.Need-slice-write-out Inv-loop μ-loop
-slice-write-out c = search needs
-
-add-k : tie.Need-add-k Inv-loop μ-loop
-add-k c = search needs
-
-loop-less : tie.Need-loop-less Inv-loop μ-loop
-loop-less c = search needs
-
 loop-again : tie.Need-loop-again Inv-loop μ-loop
 loop-again c =
-    let start = c .before .before .before .before .before .before in
+    let head = c .before .before .before in
+    let start = head .before .before .before in
     let a = start .args .a .now in
     let step = length (start .args .out .now) in
-    let k = c .before .before .before .loop .k in (
+    let k = head .loop .k in (
       omega arith,
       cc (fill-step (entry a step (length a / step) (start .args .m)) (start .args .out .now) k (omega arith)),
       simp length-set (omega arith),
     )
-
-same-length : tie.Need-same-length Inv-loop μ-loop
-same-length c = search needs
 
 returns : tie.Need-returns Inv-loop μ-loop
 returns c =
@@ -86,16 +63,16 @@ fold-parts-spec =
     (tie.spec
     Inv-loop
     μ-loop
-    div-parts
+    (λ c. search needs)
     loop-holds
     sum-parts-requires
-    wide-requires
-    rem-out
+    (λ c κs. search needs)
+    (λ c. search needs)
     cast-out
-    mul-out
-    slice-write-out
-    add-k
-    loop-less
+    (λ c. search needs)
+    (λ c. search needs)
+    (λ c. search needs)
+    (λ c. search needs)
     loop-again
-    same-length
+    (λ c. search needs)
     returns)

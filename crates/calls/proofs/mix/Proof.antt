@@ -6,25 +6,16 @@ use borrow.Author.Needs.{needs}
 use Rattle.calls.proofs.mix.Statement.{statement}
 use Rattle.calls.proofs.mix.Tie as tie
 
-check-mix-requires : tie.Need-check-mix-requires
-check-mix-requires c κs = search needs
-
 enum-told : tie.Need-enum-told
 enum-told c = search needs
 
 convolve-requires : tie.Need-convolve-requires
 convolve-requires c κs = mix-ready _ _ _ _ (sym (c .before .before .before .check-mix .ensures) ∙ c .before .enum-told .given .1)
 
-enum-known-check : tie.Need-enum-known-check
-enum-known-check c = search needs
-
-same-length : tie.Need-same-length
-same-length c = search needs
-
 returns : tie.Need-returns
-returns c = record {
-  meets = (sym (c .before .before .before .before .before .before .check-mix .ensures) ∙ c .before .before .before .before .enum-told .given .1, c .before .before .convolve .ensures);
-}
+returns c =
+    let passed = c .before .before .before .before in
+    record { meets = (sym (passed .before .before .check-mix .ensures) ∙ passed .enum-told .given .1, c .before .before .convolve .ensures) }
 
 returns-2 : tie.Need-returns-2
 returns-2 c = record { meets = (sym (c .before .before .before .check-mix .ensures) ∙ c .before .check .given .1, refl) }
@@ -33,10 +24,10 @@ pub mix-spec : {M : Type 1} → statement M
 mix-spec =
     tie.close
     (tie.spec
-    check-mix-requires
+    (λ c κs. search needs)
     enum-told
     convolve-requires
-    enum-known-check
-    same-length
+    (λ c. search needs)
+    (λ c. search needs)
     returns
     returns-2)

@@ -6,25 +6,18 @@ use borrow.Author.Needs.{needs}
 use Rattle.calls.proofs.reduce.Statement.{statement}
 use Rattle.calls.proofs.reduce.Tie as tie
 
-check-reduce-requires : tie.Need-check-reduce-requires
-check-reduce-requires c κs = search needs
-
 enum-told : tie.Need-enum-told
 enum-told c = search needs
 
 remainders-requires : tie.Need-remainders-requires
-remainders-requires c κs = reduce-ready _ _ _ _ (sym (c .before .before .before .check-reduce .ensures) ∙ c .before .enum-told .given .1)
-
-enum-known-check : tie.Need-enum-known-check
-enum-known-check c = search needs
-
-same-length : tie.Need-same-length
-same-length c = search needs
+remainders-requires c κs =
+    let checked = c .before .before .before in
+    reduce-ready _ (checked .before .before .before .args .m) _ _ (sym (checked .check-reduce .ensures) ∙ c .before .enum-told .given .1)
 
 returns : tie.Need-returns
-returns c = record {
-  meets = (sym (c .before .before .before .before .before .before .check-reduce .ensures) ∙ c .before .before .before .before .enum-told .given .1, c .before .before .remainders .ensures);
-}
+returns c =
+    let passed = c .before .before .before .before in
+    record { meets = (sym (passed .before .before .check-reduce .ensures) ∙ passed .enum-told .given .1, c .before .before .remainders .ensures) }
 
 returns-2 : tie.Need-returns-2
 returns-2 c = record { meets = (sym (c .before .before .before .check-reduce .ensures) ∙ c .before .check .given .1, refl) }
@@ -33,10 +26,10 @@ pub reduce-spec : {M : Type 1} → statement M
 reduce-spec =
     tie.close
     (tie.spec
-    check-reduce-requires
+    (λ c κs. search needs)
     enum-told
     remainders-requires
-    enum-known-check
-    same-length
+    (λ c. search needs)
+    (λ c. search needs)
     returns
     returns-2)

@@ -36,9 +36,6 @@ mul-wide c = omega (arith, reach c)
 shared-slice-read-wide : tie.Need-shared-slice-read-wide Inv-loop μ-loop
 shared-slice-read-wide c = omega (arith, reach (c .before))
 
-wide-requires : tie.Need-wide-requires Inv-loop μ-loop
-wide-requires c κs = search needs
-
 add-total : tie.Need-add-total Inv-loop μ-loop
 add-total c =
     let loop = c .before .before .before in
@@ -48,13 +45,9 @@ add-total c =
     omega (arith, word (loop .loop .i), sum-le (loop .loop .t) (λ j. at (start .args .a .now) (start .args .k + j * start .args .step)) 4294967295 (λ j. word _), start .pre .few)
 
 add-i : tie.Need-add-i Inv-loop μ-loop
-add-i c = omega (arith, reach (c .before .before), c .before .before .before .before .before .pre .few)
-
-add-t : tie.Need-add-t Inv-loop μ-loop
-add-t c = search needs
-
-loop-less : tie.Need-loop-less Inv-loop μ-loop
-loop-less c = search needs
+add-i c =
+    let inside = c .before .before in
+    omega (arith, reach inside, inside .before .before .before .pre .few)
 
 loop-again : tie.Need-loop-again Inv-loop μ-loop
 loop-again c =
@@ -79,10 +72,10 @@ sum-parts-spec =
     loop-holds
     mul-wide
     shared-slice-read-wide
-    wide-requires
+    (λ c κs. search needs)
     add-total
     add-i
-    add-t
-    loop-less
+    (λ c. search needs)
+    (λ c. search needs)
     loop-again
     returns)

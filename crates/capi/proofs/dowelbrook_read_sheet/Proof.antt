@@ -5,14 +5,8 @@ use borrow.Author.Needs.{needs}
 use Rattle.capi.proofs.dowelbrook_read_sheet.Statement.{statement}
 use Rattle.capi.proofs.dowelbrook_read_sheet.Tie as tie
 
-read-requires : tie.Need-read-requires
-read-requires c κs = search needs
-
-sheet-reply-requires : tie.Need-sheet-reply-requires
-sheet-reply-requires c κs = search needs
-
 returns : tie.Need-returns
 returns c = c .sheet-reply .ensures ∙ ap sheet-reply (c .before .read .ensures)
 
 pub dowelbrook-read-sheet-spec : {M : Type 1} → statement M
-dowelbrook-read-sheet-spec = tie.close (tie.spec read-requires sheet-reply-requires returns)
+dowelbrook-read-sheet-spec = tie.close (tie.spec (λ c κs. search needs) (λ c κs. search needs) returns)

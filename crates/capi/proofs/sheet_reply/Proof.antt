@@ -5,7 +5,8 @@ use Rattle.answer.specs.Reply.{reply}
 use Rattle.answer.specs.declared.Answer.{Answer}
 use Rattle.answer.specs.declared.Reply.{Reply}
 use Rattle.sheet.specs.declared.Sheet.{Sheet}
-use Rattle.capi.specs.SheetReply.{answered, flag, sheet-reply}
+use Rattle.capi.specs.Flag.{flag}
+use Rattle.capi.specs.SheetReply.{answered, sheet-reply}
 use Rattle.capi.specs.declared.SheetReply.{SheetReply}
 use borrow.Author.Needs.{needs}
 use Rattle.capi.proofs.sheet_reply.Statement.{statement}
@@ -29,17 +30,11 @@ fields sheet r present = record {
 by-parts : (sheet : Sheet) {answer : Answer} {r : Reply} {present : ℕ} → answer ≡ answered (sheet .verdict) → r ≡ reply answer → present ≡ flag (sheet .readings .present) → fields sheet r present ≡ sheet-reply sheet
 by-parts sheet e d p = rw (d, e, p)
 
-answer-of-requires : tie.Need-answer-of-requires
-answer-of-requires c κs = search needs
-
-reply-of-requires : tie.Need-reply-of-requires
-reply-of-requires c κs = search needs
-
-flag-requires : tie.Need-flag-requires
-flag-requires c κs = search needs
-
 returns : tie.Need-returns
-returns c = by-parts (c .before .before .before .before .before .before .args .sheet) (c .before .before .before .before .before .answer-of .ensures) (c .before .before .before .before .reply-of .ensures) (c .flag .ensures)
+returns c =
+    let replied = c .before .before .before .before in
+    let answer = replied .before in
+    by-parts (answer .before .args .sheet) (answer .answer-of .ensures) (replied .reply-of .ensures) (c .flag .ensures)
 
 pub sheet-reply-spec : {M : Type 1} → statement M
-sheet-reply-spec = tie.close (tie.spec answer-of-requires reply-of-requires flag-requires returns)
+sheet-reply-spec = tie.close (tie.spec (λ c κs. search needs) (λ c κs. search needs) (λ c κs. search needs) returns)

@@ -12,43 +12,34 @@ use borrow.Author.Needs.{needs}
 use Rattle.convolve.proofs.convolve_in.Statement.{statement}
 use Rattle.convolve.proofs.convolve_in.Tie as tie
 
-add-e : tie.Need-add-e
-add-e c = search needs
-
-add-e-2 : tie.Need-add-e-2
-add-e-2 c = search needs
-
-slice-relend-prefix-lay-backwards : tie.Need-slice-relend-prefix-lay-backwards
-slice-relend-prefix-lay-backwards c = search needs
-
 slice-aggregate-lay-backwards : tie.Need-slice-aggregate-lay-backwards
 slice-aggregate-lay-backwards c = sym (length-take-le _ _ (omega arith))
 
 lay-backwards-requires : tie.Need-lay-backwards-requires
 lay-backwards-requires c κs = length-take-le _ _ (omega arith)
 
-slice-relend-prefix-lay-around : tie.Need-slice-relend-prefix-lay-around
-slice-relend-prefix-lay-around c = search needs
-
 slice-aggregate-lay-around : tie.Need-slice-aggregate-lay-around
 slice-aggregate-lay-around c = sym (length-take-le _ _ (omega arith))
 
 lay-around-requires : tie.Need-lay-around-requires
 lay-around-requires c κs =
-    let s = c .before .before .before .before .before .before .before .before .before .before in
+    let cut = c .before .before .before .before in
+    let sized = cut .before .before .before .before in
+    let s = sized .before .before in
     let e = length-take-le (length (s .args .a .now) + length (s .args .a .now) + 3) (s .args .d .now) (omega arith) in
     record { least = omega arith; room = omega arith }
 
-slice-reshare-prefix-entries : tie.Need-slice-reshare-prefix-entries
-slice-reshare-prefix-entries c = search needs
+-- Once both rings are laid: the place where the first was, and the start.
+abbrev first-laid : tie.After-slice-known5 → tie.After-lay-backwards
+first-laid c = let second = c .before .before .before in second .before .before .before
+
+abbrev start : tie.After-slice-known5 → tie.Start
+start c = let cut = first-laid c .before .before .before .before in cut .before .before .before
 
 -- The room holds both layouts.
-abbrev start : tie.After-slice-known5 → tie.Start
-start c = c .before .before .before .before .before .before .before .before .before .before .before .before .before
-
 x-laid : (c : tie.After-slice-known5)
-    → take (length (start c .args .a .now)) (c .before .before .before .before .before .before .lay-backwards .last .1 .0 ++ drop (length (start c .args .a .now)) (start c .args .x .now)) ≡ backwards (start c .args .a .now)
-x-laid c = front-backwards _ _ _ (c .before .before .before .before .before .before .lay-backwards .ensures)
+    → take (length (start c .args .a .now)) (first-laid c .lay-backwards .last .1 .0 ++ drop (length (start c .args .a .now)) (start c .args .x .now)) ≡ backwards (start c .args .a .now)
+x-laid c = front-backwards _ _ _ (first-laid c .lay-backwards .ensures)
 
 abbrev turns : tie.After-slice-known5 → ℕ
 turns c = length (start c .args .a .now) + length (start c .args .a .now) + 3
@@ -59,9 +50,6 @@ d-laid c = front-around (start c .args .b .now) (start c .args .d .now) _ _ (tur
 slice-aggregate-entries : tie.Need-slice-aggregate-entries
 slice-aggregate-entries c = sym (ap length (x-laid (c .before)) ∙ length-backwards _)
 
-slice-reshare-prefix-entries-2 : tie.Need-slice-reshare-prefix-entries-2
-slice-reshare-prefix-entries-2 c = search needs
-
 slice-aggregate-entries-2 : tie.Need-slice-aggregate-entries-2
 slice-aggregate-entries-2 c = sym (ap length (d-laid (c .before .before)) ∙ length-around _ _)
 
@@ -71,18 +59,10 @@ entries-requires c κs =
     let s = start l in
     rw (x-laid l, d-laid l) (laid (s .args .a .now) (s .args .b .now) (s .args .m) (s .args .out .now) (s .pre .mixable))
 
-same-length : tie.Need-same-length
-same-length c = search needs
-
-same-length-2 : tie.Need-same-length-2
-same-length-2 c = search needs
-
-same-length-3 : tie.Need-same-length-3
-same-length-3 c = search needs
-
 returns : tie.Need-returns
 returns c =
-    let l = c .before .before .before .before .before .before in
+    let entered = c .before .before .before in
+    let l = entered .before .before .before in
     let s = start l in
     (rw (x-laid l, d-laid l) at (c .before .before .entries .ensures)) ∙ product (s .args .a .now) (s .args .b .now) (s .args .m) (s .args .out .now) (s .pre .mixable)
 
@@ -90,20 +70,20 @@ pub convolve-in-spec : {M : Type 1} → statement M
 convolve-in-spec =
     tie.close
     (tie.spec
-    add-e
-    add-e-2
-    slice-relend-prefix-lay-backwards
+    (λ c. search needs)
+    (λ c. search needs)
+    (λ c. search needs)
     slice-aggregate-lay-backwards
     lay-backwards-requires
-    slice-relend-prefix-lay-around
+    (λ c. search needs)
     slice-aggregate-lay-around
     lay-around-requires
-    slice-reshare-prefix-entries
+    (λ c. search needs)
     slice-aggregate-entries
-    slice-reshare-prefix-entries-2
+    (λ c. search needs)
     slice-aggregate-entries-2
     entries-requires
-    same-length
-    same-length-2
-    same-length-3
+    (λ c. search needs)
+    (λ c. search needs)
+    (λ c. search needs)
     returns)

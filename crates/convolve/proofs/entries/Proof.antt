@@ -2,7 +2,7 @@
 use Prim.Native.Nat.{_+_, _-_, _%_}
 use mathlib.Core.Path.{_≡_, refl}
 use lib.ListN.{length}
-use Rattle.convolve.specs.Layout.{along}
+use Rattle.along.specs.Along.{along}
 use Rattle.convolve.proofs.Output.{rows-ready, entries-are, entry-words, Filled, filled-none, filled-four, filled-all}
 use borrow.Author.Needs.{needs}
 use native.Mathlib.Omega.{arith}
@@ -17,21 +17,6 @@ abbrev μ-loop : tie.MeasureT-loop
 
 loop-holds : tie.Need-loop-holds Inv-loop μ-loop
 loop-holds c = (filled-none _ _, refl)
-
-add-from : tie.Need-add-from Inv-loop μ-loop
-add-from c = search needs
-
-mul-four-entries : tie.Need-mul-four-entries Inv-loop μ-loop
-mul-four-entries c = search needs
-
-sub-four-entries : tie.Need-sub-four-entries Inv-loop μ-loop
-sub-four-entries c = search needs
-
-part-four-entries-start : tie.Need-part-four-entries-start Inv-loop μ-loop
-part-four-entries-start c = search needs
-
-part-four-entries-end : tie.Need-part-four-entries-end Inv-loop μ-loop
-part-four-entries-end c = search needs
 
 four-entries-requires : tie.Need-four-entries-requires Inv-loop μ-loop
 four-entries-requires c κs =
@@ -50,12 +35,6 @@ put-four-requires c κs =
     let q = entries-are x d m (l .loop .k) (f .four-entries .result) (f .four-entries .ensures) in
     entry-words x d m (l .loop .k) (f .four-entries .result) (s .pre .positive) (s .fits .m .fits) (omega arith) q
 
-add-k : tie.Need-add-k Inv-loop μ-loop
-add-k c = search needs
-
-loop-less : tie.Need-loop-less Inv-loop μ-loop
-loop-less c = search needs
-
 loop-again : tie.Need-loop-again Inv-loop μ-loop
 loop-again c =
     let f = c .before .before .before .before in
@@ -66,9 +45,6 @@ loop-again c =
     let m = s .args .m in
     let q = entries-are x d m (l .loop .k) (f .four-entries .result) (f .four-entries .ensures) in
     (filled-four (λ i. along x d (i + 1) % m) (l .loop .out) _ (l .loop .k) _ (c .before .before .put-four .ensures) q (l .loop .inv .0), omega arith)
-
-same-length : tie.Need-same-length Inv-loop μ-loop
-same-length c = search needs
 
 returns : tie.Need-returns Inv-loop μ-loop
 returns c =
@@ -83,15 +59,15 @@ entries-spec =
     Inv-loop
     μ-loop
     loop-holds
-    add-from
-    mul-four-entries
-    sub-four-entries
-    part-four-entries-start
-    part-four-entries-end
+    (λ c. search needs)
+    (λ c. search needs)
+    (λ c. search needs)
+    (λ c. search needs)
+    (λ c. search needs)
     four-entries-requires
     put-four-requires
-    add-k
-    loop-less
+    (λ c. search needs)
+    (λ c. search needs)
     loop-again
-    same-length
+    (λ c. search needs)
     returns)

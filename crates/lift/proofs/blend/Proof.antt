@@ -35,35 +35,11 @@ read d =
     let start = d .before .before .before .before in
     fill-read (answer d) (start .args .acc .now) (d .before .loop .k) (omega (arith, start .pre .long)) (d .before .loop .inv .1)
 
-mul-x : tie.Need-mul-x Inv-loop μ-loop
-mul-x c = search needs
-
-shared-slice-read-x : tie.Need-shared-slice-read-x Inv-loop μ-loop
-shared-slice-read-x c = search needs
-
-mul-y : tie.Need-mul-y Inv-loop μ-loop
-mul-y c = search needs
-
-slice-read-y : tie.Need-slice-read-y Inv-loop μ-loop
-slice-read-y c = search needs
-
 blended-requires : tie.Need-blended-requires Inv-loop μ-loop
 blended-requires c κs =
     let d = c .before .before in
     let start = d .before .before .before .before in
     subst (λ (y : ℕ). Blendable (at (start .args .g .now) (d .before .loop .k)) y (start .args .first) (start .args .second) (start .args .m)) (sym (read d)) (start .pre .each (d .before .loop .k))
-
-mul-acc : tie.Need-mul-acc Inv-loop μ-loop
-mul-acc c = search needs
-
-slice-write-acc : tie.Need-slice-write-acc Inv-loop μ-loop
-slice-write-acc c = search needs
-
-add-k : tie.Need-add-k Inv-loop μ-loop
-add-k c = search needs
-
-loop-less : tie.Need-loop-less Inv-loop μ-loop
-loop-less c = search needs
 
 loop-again : tie.Need-loop-again Inv-loop μ-loop
 loop-again c =
@@ -76,9 +52,6 @@ loop-again c =
           (c .blended .ensures ∙ ap (λ (y : ℕ). (args .first * at (args .g .now) k + args .second * y) % args .m) (read d)),
       simp length-set (d .before .loop .inv .2),
     )
-
-same-length : tie.Need-same-length Inv-loop μ-loop
-same-length c = search needs
 
 returns : tie.Need-returns Inv-loop μ-loop
 returns c =
@@ -95,15 +68,15 @@ blend-spec =
     Inv-loop
     μ-loop
     loop-holds
-    mul-x
-    shared-slice-read-x
-    mul-y
-    slice-read-y
+    (λ c. search needs)
+    (λ c. search needs)
+    (λ c. search needs)
+    (λ c. search needs)
     blended-requires
-    mul-acc
-    slice-write-acc
-    add-k
-    loop-less
+    (λ c. search needs)
+    (λ c. search needs)
+    (λ c. search needs)
+    (λ c. search needs)
     loop-again
-    same-length
+    (λ c. search needs)
     returns)

@@ -7,23 +7,14 @@ use borrow.Author.Needs.{needs}
 use Rattle.lift.proofs.blended.Statement.{statement}
 use Rattle.lift.proofs.blended.Tie as tie
 
-wide-requires : tie.Need-wide-requires
-wide-requires c κs = search needs
-
 mul-result : tie.Need-mul-result
 mul-result c = omega (arith, c .before .pre .fits, ap (λ (z : ℕ). c .before .args .first * z) (c .wide .ensures))
-
-wide-requires-2 : tie.Need-wide-requires-2
-wide-requires-2 c κs = search needs
 
 mul-result-2 : tie.Need-mul-result-2
 mul-result-2 c = omega (arith, c .before .before .pre .fits, ap (λ (z : ℕ). c .before .before .args .first * z) (c .before .wide .ensures), ap (λ (z : ℕ). c .before .before .args .second * z) (c .wide2 .ensures))
 
 add-result : tie.Need-add-result
 add-result c = omega (arith, c .before .before .pre .fits, ap (λ (z : ℕ). c .before .before .args .first * z) (c .before .wide .ensures), ap (λ (z : ℕ). c .before .before .args .second * z) (c .wide2 .ensures))
-
-rem-result : tie.Need-rem-result
-rem-result c = search needs
 
 cast-result : tie.Need-cast-result
 cast-result c = let start = c .before .before in omega (arith, start .pre .word, mod-lt (start .args .first * c .before .wide .result + start .args .second * c .wide2 .result) (start .pre .positive))
@@ -35,11 +26,11 @@ pub blended-spec : {M : Type 1} → statement M
 blended-spec =
     tie.close
     (tie.spec
-    wide-requires
+    (λ c κs. search needs)
     mul-result
-    wide-requires-2
+    (λ c κs. search needs)
     mul-result-2
     add-result
-    rem-result
+    (λ c. search needs)
     cast-result
     returns)

@@ -4,43 +4,53 @@ use borrow.Author.Needs.{needs}
 use Rattle.lift.proofs.round.Statement.{statement}
 use Rattle.lift.proofs.round.Tie as tie
 
-remainders-requires : tie.Need-remainders-requires
-remainders-requires c κs = search needs
+-- The places: from each call back to the one before it, and from the first to the start.
+abbrev start : tie.After-remainders → tie.Start
+start c = let lent = c .before .before .before .before in lent .before .before .before
+
+abbrev reduced : tie.After-convolve-arg2 → tie.After-remainders
+reduced c = c .before .before .before .before
+
+abbrev squared : tie.After-convolve-arg5 → tie.After-convolve
+squared c = let lent = c .before .before .before in lent .before .before
+
+abbrev multiplied : tie.After-twice-less-arg2 → tie.After-convolve2
+multiplied c = c .before .before .before .before
 
 convolve-requires : tie.Need-convolve-requires
-convolve-requires c κs = squaring (c .before .before .before .before .before .before .before .before .before .before .before .pre)
+convolve-requires c κs = squaring (start (reduced c) .pre)
 
 convolve-requires-2 : tie.Need-convolve-requires-2
-convolve-requires-2 c κs = multiplying (c .before .before .before .before .before .before .before .before .before .before .before .before .before .before .before .before .before .pre) (c .before .before .before .before .before .before .before .before .before .before .remainders .ensures) (c .before .before .before .before .before .convolve .ensures)
+convolve-requires-2 c κs =
+    let square = squared c in
+    let pattern = reduced (square .before) in
+    multiplying (start pattern .pre) (pattern .remainders .ensures) (square .convolve .ensures)
 
 twice-less-requires : tie.Need-twice-less-requires
-twice-less-requires c κs = lessening (c .before .before .before .before .before .before .before .before .before .before .before .before .before .before .before .before .before .before .before .before .before .before .pre) (c .before .before .before .before .before .before .before .before .before .before .before .before .before .before .before .remainders .ensures) (c .before .before .before .before .before .before .before .before .before .before .convolve .ensures) (c .before .before .before .before .convolve2 .ensures)
-
-same-length : tie.Need-same-length
-same-length c = search needs
-
-same-length-2 : tie.Need-same-length-2
-same-length-2 c = search needs
-
-same-length-3 : tie.Need-same-length-3
-same-length-3 c = search needs
-
-same-length-4 : tie.Need-same-length-4
-same-length-4 c = search needs
+twice-less-requires c κs =
+    let product = multiplied c in
+    let square = squared (product .before) in
+    let pattern = reduced (square .before) in
+    lessening (start pattern .pre) (pattern .remainders .ensures) (square .convolve .ensures) (product .convolve2 .ensures)
 
 returns : tie.Need-returns
-returns c = rounded (c .before .before .before .before .before .before .before .before .before .before .before .before .before .before .before .before .before .before .before .before .before .before .before .before .before .pre) (c .before .before .before .before .before .before .before .before .before .before .before .before .before .before .before .before .before .before .remainders .ensures) (c .before .before .before .before .before .before .before .before .before .before .before .before .before .convolve .ensures) (c .before .before .before .before .before .before .before .convolve2 .ensures) (c .before .before .twice-less .ensures)
+returns c =
+    let last = c .before .before in
+    let product = multiplied (last .before) in
+    let square = squared (product .before) in
+    let pattern = reduced (square .before) in
+    rounded (start pattern .pre) (pattern .remainders .ensures) (square .convolve .ensures) (product .convolve2 .ensures) (last .twice-less .ensures)
 
 pub round-spec : {M : Type 1} → statement M
 round-spec =
     tie.close
     (tie.spec
-    remainders-requires
+    (λ c κs. search needs)
     convolve-requires
     convolve-requires-2
     twice-less-requires
-    same-length
-    same-length-2
-    same-length-3
-    same-length-4
+    (λ c. search needs)
+    (λ c. search needs)
+    (λ c. search needs)
+    (λ c. search needs)
     returns)

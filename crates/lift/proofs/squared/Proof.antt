@@ -7,20 +7,8 @@ use borrow.Author.Needs.{needs}
 use Rattle.lift.proofs.squared.Statement.{statement}
 use Rattle.lift.proofs.squared.Tie as tie
 
-wide-requires : tie.Need-wide-requires
-wide-requires c κs = search needs
-
-wide-requires-2 : tie.Need-wide-requires-2
-wide-requires-2 c κs = search needs
-
 mul-square : tie.Need-mul-square
 mul-square c = omega (arith, mul-le-mul {n₁ = c .before .wide .result} {m₁ = c .wide2 .result} {n₂ = 4294967295} {m₂ = 4294967295} (omega arith) (omega arith))
-
-wide-requires-3 : tie.Need-wide-requires-3
-wide-requires-3 c κs = search needs
-
-cast-result : tie.Need-cast-result
-cast-result c = search needs
 
 returns : tie.Need-returns
 returns c =
@@ -38,10 +26,10 @@ pub squared-spec : {M : Type 1} → statement M
 squared-spec =
     tie.close
     (tie.spec
-    wide-requires
-    wide-requires-2
+    (λ c κs. search needs)
+    (λ c κs. search needs)
     mul-square
-    wide-requires-3
-    cast-result
+    (λ c κs. search needs)
+    (λ c. search needs)
     returns
     returns-2)

@@ -34,18 +34,6 @@ low : (d : tie.In-loop Inv-loop μ-loop) → let start = d .before .before in
     (at (d .before .loop .g) (d .before .loop .k) < start .args .q) × (at (start .args .h .now) (d .before .loop .k) < start .args .q) × (start .args .q ≤ most-modulus)
 low d = let pre = d .before .before .pre in (omega (arith, read d, pre .low-g (d .before .loop .k)), pre .low-h (d .before .loop .k), pre .limit)
 
-mul-x : tie.Need-mul-x Inv-loop μ-loop
-mul-x c = search needs
-
-slice-read-x : tie.Need-slice-read-x Inv-loop μ-loop
-slice-read-x c = search needs
-
-mul-y : tie.Need-mul-y Inv-loop μ-loop
-mul-y c = search needs
-
-shared-slice-read-y : tie.Need-shared-slice-read-y Inv-loop μ-loop
-shared-slice-read-y c = search needs
-
 mul-g : tie.Need-mul-g Inv-loop μ-loop
 mul-g c = omega (arith, low (c .before .before))
 
@@ -54,21 +42,6 @@ sub-g c = omega (arith, low (c .before .before))
 
 add-g : tie.Need-add-g Inv-loop μ-loop
 add-g c = omega (arith, low (c .before .before))
-
-rem-g : tie.Need-rem-g Inv-loop μ-loop
-rem-g c = search needs
-
-mul-g-2 : tie.Need-mul-g-2 Inv-loop μ-loop
-mul-g-2 c = search needs
-
-slice-write-g : tie.Need-slice-write-g Inv-loop μ-loop
-slice-write-g c = search needs
-
-add-k : tie.Need-add-k Inv-loop μ-loop
-add-k c = search needs
-
-loop-less : tie.Need-loop-less Inv-loop μ-loop
-loop-less c = search needs
 
 loop-again : tie.Need-loop-again Inv-loop μ-loop
 loop-again c =
@@ -80,9 +53,6 @@ loop-again c =
           (ap (λ (x : ℕ). (2 * x + (q - at (start .args .h .now) (d .before .loop .k))) % q) (read d)),
       simp length-set (d .before .loop .inv .2),
     )
-
-same-length : tie.Need-same-length Inv-loop μ-loop
-same-length c = search needs
 
 returns : tie.Need-returns Inv-loop μ-loop
 returns c =
@@ -98,18 +68,18 @@ twice-less-spec =
     Inv-loop
     μ-loop
     loop-holds
-    mul-x
-    slice-read-x
-    mul-y
-    shared-slice-read-y
+    (λ c. search needs)
+    (λ c. search needs)
+    (λ c. search needs)
+    (λ c. search needs)
     mul-g
     sub-g
     add-g
-    rem-g
-    mul-g-2
-    slice-write-g
-    add-k
-    loop-less
+    (λ c. search needs)
+    (λ c. search needs)
+    (λ c. search needs)
+    (λ c. search needs)
+    (λ c. search needs)
     loop-again
-    same-length
+    (λ c. search needs)
     returns)

@@ -46,7 +46,7 @@ put-digits-returns : (t : ℕ) → put-digits-lts.Need-returns (
   put-digits-below t,
   put-digits.Post,
 ) (put-digits-at t) put-digits.Post
-put-digits-returns t c = puts-digit (c .before .before .before .before .if1 .taken) (c .before .before .before .before .before .before .pre .1) (c .before .before .put-digit .ensures)
+put-digits-returns t c = puts-digit (c .before .before .before .before .if1 .taken) (c .before .before .put-digit .ensures)
 
 put-digits-put-digits-requires : (t : ℕ) → put-digits-lts.Need-put-digits-requires (
   put-digit-reads.Asked,
@@ -63,8 +63,9 @@ put-digits-put-digit-requires-2 : (t : ℕ) → put-digits-lts.Need-put-digit-re
   put-digits.Post,
 ) (put-digits-at t) put-digits.Post
 put-digits-put-digit-requires-2 t c κs =
-    let start = c .before .before .before .before .before .before .before in
-    record { low = mod-lt (start .args .x) (omega arith); inside = last-inside (c .before .before .before .before .before .if1 .left) (start .pre .1) (c .before .before .before .put-digits .ensures) }
+    let tenth = c .before .before .before in
+    let start = tenth .before .before .before .before in
+    record { low = mod-lt (start .args .x) (omega arith); inside = last-inside (tenth .before .before .if1 .left) (tenth .put-digits .ensures) (start .pre .1) }
 
 put-digits-same-length-2 : (t : ℕ) → put-digits-lts.Need-same-length-2 (
   put-digit-reads.Asked,
@@ -72,7 +73,7 @@ put-digits-same-length-2 : (t : ℕ) → put-digits-lts.Need-same-length-2 (
   put-digits-below t,
   put-digits.Post,
 ) (put-digits-at t) put-digits.Post
-put-digits-same-length-2 t c = c .before .before .put-digit2 .kept .0 ∙ c .before .before .before .before .before .before .put-digits .kept .0
+put-digits-same-length-2 t c = let last = c .before .before in last .put-digit2 .kept .0 ∙ last .before .before .before .before .put-digits .kept .0
 
 put-digits-returns-2 : (t : ℕ) → put-digits-lts.Need-returns-2 (
   put-digit-reads.Asked,
@@ -80,7 +81,10 @@ put-digits-returns-2 : (t : ℕ) → put-digits-lts.Need-returns-2 (
   put-digits-below t,
   put-digits.Post,
 ) (put-digits-at t) put-digits.Post
-put-digits-returns-2 t c = puts-last (c .before .before .before .before .before .before .before .before .if1 .left) (c .before .before .before .before .before .before .before .before .before .before .pre .1) (c .before .before .before .before .before .before .put-digits .ensures) (c .before .before .put-digit2 .ensures)
+put-digits-returns-2 t c =
+    let last = c .before .before in
+    let tenth = last .before .before .before .before in
+    puts-last (tenth .before .before .if1 .left) (tenth .put-digits .ensures) (last .put-digit2 .ensures)
 
 pub +put-digits-spec : {M : Type 1} → statement M
 +put-digits-spec = close μ-put-digits λ t. put-digits-lts.spec (

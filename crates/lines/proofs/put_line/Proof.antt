@@ -1,38 +1,47 @@
 -- `lines::put_line` meets its contract: the name, the entries and the line's end, one after the other. Assumes nothing.
-use mathlib.Core.List.{[], _∷_, _++_}
-use Rattle.lines.specs.Items.{word, number, numbers}
+use mathlib.Core.List.{List, [], _∷_, _++_}
+use Rattle.lines.specs.Items.{Item, word, numbers}
 use Rattle.lines.specs.Lines.{after, newline}
 use Rattle.lines.proofs.Putting.{room-first, room-next, puts-append}
 use borrow.Author.Needs.{needs}
 use Rattle.lines.proofs.put_line.Statement.{statement}
 use Rattle.lines.proofs.put_line.Tie as tie
 
+-- The places after the name and after the entries, and what the function was given.
+abbrev given : tie.After-put-word → tie.Start
+given name = let names = name .before .before in names .before .before .before
+
+abbrev name : tie.After-put-ring → tie.After-put-word
+name ring = ring .before .before .before .before
+
+-- What comes after the name.
+abbrev others : tie.Start → List Item
+others start = after (numbers (start .args .ring .now)) ++ newline
+
 put-word-requires : tie.Need-put-word-requires
 put-word-requires c κs =
     let start = c .before .before .before .before in
-    let given = start .args in
-    room-first (word (given .name .now) ∷ []) ((after (numbers (given .ring .now))) ++ (newline)) (start .pre)
+    room-first (word (start .args .name .now) ∷ []) (others start) (start .pre)
 
 put-ring-requires : tie.Need-put-ring-requires
 put-ring-requires c κs =
-    let start = c .before .before .before .before .before .before .before .before in
-    let given = start .args in
-    room-first (after (numbers (given .ring .now))) (newline) (room-next (word (given .name .now) ∷ []) ((after (numbers (given .ring .now))) ++ (newline)) (start .pre) (c .before .before .before .put-word .ensures))
-
-slice-aggregate-put-word : tie.Need-slice-aggregate-put-word
-slice-aggregate-put-word c = search needs
+    let first = c .before .before .before in
+    let start = given first in
+    room-first (after (numbers (start .args .ring .now))) newline (room-next (word (start .args .name .now) ∷ []) (others start) (start .pre) (first .put-word .ensures))
 
 put-word-requires-2 : tie.Need-put-word-requires-2
 put-word-requires-2 c κs =
-    let start = c .before .before .before .before .before .before .before .before .before .before .before .before .before in
-    let given = start .args in
-    room-next (after (numbers (given .ring .now))) (newline) (room-next (word (given .name .now) ∷ []) ((after (numbers (given .ring .now))) ++ (newline)) (start .pre) (c .before .before .before .before .before .before .before .before .put-word .ensures)) (c .before .before .before .before .put-ring .ensures)
-
-same-length : tie.Need-same-length
-same-length c = search needs
+    let second = c .before .before .before .before in
+    let first = name second in
+    let start = given first in
+    room-next (after (numbers (start .args .ring .now))) newline (room-next (word (start .args .name .now) ∷ []) (others start) (start .pre) (first .put-word .ensures)) (second .put-ring .ensures)
 
 returns : tie.Need-returns
-returns c = puts-append (c .before .before .before .before .before .before .before .before .before .before .before .put-word .ensures) (puts-append (c .before .before .before .before .before .before .before .put-ring .ensures) (c .before .before .put-word2 .ensures))
+returns c =
+    let last = c .before .before in
+    let newline-put = last .before in
+    let second = newline-put .before .before .before .before in
+    puts-append (name second .put-word .ensures) (puts-append (second .put-ring .ensures) (last .put-word2 .ensures))
 
 pub put-line-spec : {M : Type 1} → statement M
 put-line-spec =
@@ -40,7 +49,7 @@ put-line-spec =
     (tie.spec
     put-word-requires
     put-ring-requires
-    slice-aggregate-put-word
+    (λ c. search needs)
     put-word-requires-2
-    same-length
+    (λ c. search needs)
     returns)

@@ -1,46 +1,54 @@
 -- `lines::put_named` meets its contract: a blank, the name, and the number after a blank, one after the other. Assumes nothing.
-use mathlib.Core.List.{[], _∷_, _++_}
-use Rattle.lines.specs.Items.{word, number, text}
+use mathlib.Core.List.{List, [], _∷_}
+use Rattle.lines.specs.Items.{Item, word, number, text}
 use Rattle.lines.specs.Lines.{after}
 use Rattle.lines.proofs.Putting.{room-first, room-next, puts-append}
 use borrow.Author.Needs.{needs}
 use Rattle.lines.proofs.put_named.Statement.{statement}
 use Rattle.lines.proofs.put_named.Tie as tie
 
-slice-aggregate-put-word : tie.Need-slice-aggregate-put-word
-slice-aggregate-put-word c = search needs
+-- The places after the blank and after the name, and what the function was given.
+abbrev given : tie.After-put-word → tie.Start
+given blank = let blanks = blank .before .before in blanks .before .before .before
+
+abbrev blank : tie.After-put-word2 → tie.After-put-word
+blank name = name .before .before .before .before
+
+-- What comes after the blank.
+abbrev others : tie.Start → List Item
+others start = word (start .args .name .now) ∷ after (number (start .args .x) ∷ [])
 
 put-word-requires : tie.Need-put-word-requires
 put-word-requires c κs =
     let start = c .before .before .before .before in
-    let given = start .args in
-    room-first (text " " ∷ []) ((word (given .name .now) ∷ []) ++ (after (number (given .x) ∷ []))) (start .pre)
+    room-first (text " " ∷ []) (others start) (start .pre)
 
 put-word-requires-2 : tie.Need-put-word-requires-2
 put-word-requires-2 c κs =
-    let start = c .before .before .before .before .before .before .before .before in
-    let given = start .args in
-    room-first (word (given .name .now) ∷ []) (after (number (given .x) ∷ [])) (room-next (text " " ∷ []) ((word (given .name .now) ∷ []) ++ (after (number (given .x) ∷ []))) (start .pre) (c .before .before .before .put-word .ensures))
+    let first = c .before .before .before in
+    let start = given first in
+    room-first (word (start .args .name .now) ∷ []) (after (number (start .args .x) ∷ [])) (room-next (text " " ∷ []) (others start) (start .pre) (first .put-word .ensures))
 
 put-number-requires : tie.Need-put-number-requires
 put-number-requires c κs =
-    let start = c .before .before .before .before .before .before .before .before .before .before .before .before in
-    let given = start .args in
-    room-next (word (given .name .now) ∷ []) (after (number (given .x) ∷ [])) (room-next (text " " ∷ []) ((word (given .name .now) ∷ []) ++ (after (number (given .x) ∷ []))) (start .pre) (c .before .before .before .before .before .before .before .put-word .ensures)) (c .before .before .before .put-word2 .ensures)
-
-same-length : tie.Need-same-length
-same-length c = search needs
+    let second = c .before .before .before in
+    let first = blank second in
+    let start = given first in
+    room-next (word (start .args .name .now) ∷ []) (after (number (start .args .x) ∷ [])) (room-next (text " " ∷ []) (others start) (start .pre) (first .put-word .ensures)) (second .put-word2 .ensures)
 
 returns : tie.Need-returns
-returns c = puts-append (c .before .before .before .before .before .before .before .before .before .before .put-word .ensures) (puts-append (c .before .before .before .before .before .before .put-word2 .ensures) (c .before .before .put-number .ensures))
+returns c =
+    let last = c .before .before in
+    let second = last .before .before .before .before in
+    puts-append (blank second .put-word .ensures) (puts-append (second .put-word2 .ensures) (last .put-number .ensures))
 
 pub put-named-spec : {M : Type 1} → statement M
 put-named-spec =
     tie.close
     (tie.spec
-    slice-aggregate-put-word
+    (λ c. search needs)
     put-word-requires
     put-word-requires-2
     put-number-requires
-    same-length
+    (λ c. search needs)
     returns)

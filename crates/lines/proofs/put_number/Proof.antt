@@ -6,22 +6,19 @@ use Rattle.lines.proofs.Putting.{room-first, room-next, puts-append}
 use Rattle.lines.proofs.put_number.Statement.{statement}
 use Rattle.lines.proofs.put_number.Tie as tie
 
-slice-aggregate-put-word : tie.Need-slice-aggregate-put-word
-slice-aggregate-put-word c = search needs
-
 put-word-requires : tie.Need-put-word-requires
 put-word-requires c κs = let start = c .before .before .before in room-first (text " " ∷ []) (number (start .args .x) ∷ []) (start .pre)
 
 put-digits-requires : tie.Need-put-digits-requires
-put-digits-requires c κs = let start = c .before .before .before .before .before .before .before in room-next (text " " ∷ []) (number (start .args .x) ∷ []) (start .pre) (c .before .before .before .put-word .ensures)
-
-same-length : tie.Need-same-length
-same-length c = search needs
+put-digits-requires c κs =
+    let blank = c .before .before .before in
+    let start = blank .before .before .before .before in
+    room-next (text " " ∷ []) (number (start .args .x) ∷ []) (start .pre) (blank .put-word .ensures)
 
 returns : tie.Need-returns
-returns c = puts-append (c .before .before .before .before .before .before .put-word .ensures) (c .before .before .put-digits .ensures)
+returns c = let last = c .before .before in puts-append (last .before .before .before .before .put-word .ensures) (last .put-digits .ensures)
 
 pub put-number-spec : {M : Type 1} → statement M
 put-number-spec =
     tie.close
-    (tie.spec slice-aggregate-put-word put-word-requires put-digits-requires same-length returns)
+    (tie.spec (λ c. search needs) put-word-requires put-digits-requires (λ c. search needs) returns)

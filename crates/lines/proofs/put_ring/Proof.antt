@@ -17,39 +17,33 @@ Inv-loop text₀ at ring end₀ i₀ text end i = (i ≤ length ring) × Puts (a
 abbrev μ-loop : tie.MeasureT-loop
 μ-loop text₀ at ring end₀ i₀ text end i = length ring - i
 
+-- What the function was given, from the loop's head.
+abbrev given : tie.At-loop Inv-loop μ-loop → tie.Start Inv-loop μ-loop
+given head = head .before .before .before
+
 loop-holds : tie.Need-loop-holds Inv-loop μ-loop
 loop-holds c = (omega arith, puts-nothing (c .before .before .pre))
 
-mul-wide : tie.Need-mul-wide Inv-loop μ-loop
-mul-wide c = search needs
-
-shared-slice-read-wide : tie.Need-shared-slice-read-wide Inv-loop μ-loop
-shared-slice-read-wide c = search needs
-
-wide-requires : tie.Need-wide-requires Inv-loop μ-loop
-wide-requires c κs = search needs
-
 put-number-requires : tie.Need-put-number-requires Inv-loop μ-loop
 put-number-requires c κs =
-    let start = c .before .before .before .before .before .before .before in
-    room-entry (start .args .ring .now) (start .args .at) (start .args .text .now) (c .before .before .before .before .loop .i) (c .before .before .before .loop-test .taken) (c .wide .ensures) (start .pre) (c .before .before .before .before .loop .inv .1)
-
-add-i : tie.Need-add-i Inv-loop μ-loop
-add-i c = search needs
-
-loop-less : tie.Need-loop-less Inv-loop μ-loop
-loop-less c = search needs
+    let turn = c .before .before .before in
+    let head = turn .before in
+    let start = given head in
+    room-entry (start .args .ring .now) (start .args .at) (start .args .text .now) (head .loop .i) (turn .loop-test .taken) (c .wide .ensures) (start .pre) (head .loop .inv .1)
 
 loop-again : tie.Need-loop-again Inv-loop μ-loop
 loop-again c =
-    let given = c .before .before .before .before .before .before .before .before .before .before .args in
-    (omega arith, puts-entry (given .ring .now) (given .at) (given .text .now) (c .before .before .before .before .before .before .before .loop .i) (c .before .before .before .before .before .before .loop-test .taken) (c .before .before .before .wide .ensures) (c .before .before .before .before .before .before .before .loop .inv .1) (c .before .before .put-number .ensures))
+    let entry = c .before .before .before in
+    let turn = entry .before .before .before in
+    let head = turn .before in
+    let start = given head in
+    (omega arith, puts-entry (start .args .ring .now) (start .args .at) (start .args .text .now) (head .loop .i) (turn .loop-test .taken) (entry .wide .ensures) (head .loop .inv .1) (c .before .before .put-number .ensures))
 
 same-length : tie.Need-same-length Inv-loop μ-loop
 same-length c = puts-length (c .before .loop .inv .1)
 
 returns : tie.Need-returns Inv-loop μ-loop
-returns c = puts-ring (c .before .before .before .before .args .ring .now) (c .loop-test .left) (c .before .loop .inv .1)
+returns c = puts-ring (given (c .before) .args .ring .now) (c .loop-test .left) (c .before .loop .inv .1)
 
 pub put-ring-spec : {M : Type 1} → statement M
 put-ring-spec =
@@ -58,12 +52,12 @@ put-ring-spec =
     Inv-loop
     μ-loop
     loop-holds
-    mul-wide
-    shared-slice-read-wide
-    wide-requires
+    (λ c. search needs)
+    (λ c. search needs)
+    (λ c κs. search needs)
     put-number-requires
-    add-i
-    loop-less
+    (λ c. search needs)
+    (λ c. search needs)
     loop-again
     same-length
     returns)

@@ -4,31 +4,28 @@ use borrow.Author.Needs.{needs}
 use Rattle.report.proofs.report_accepted.Statement.{statement}
 use Rattle.report.proofs.report_accepted.Tie as tie
 
-factors-of-requires : tie.Need-factors-of-requires
-factors-of-requires c κs = search needs
-
-pattern-of-requires : tie.Need-pattern-of-requires
-pattern-of-requires c κs = search needs
-
-readings-of-requires : tie.Need-readings-of-requires
-readings-of-requires c κs = search needs
-
 report-parts-requires : tie.Need-report-parts-requires
-report-parts-requires c κs = parts-short (c .before .before .before .before .before .before .before .pre) (c .before .before .before .factors-of .ensures) (c .before .before .pattern-of .ensures) (c .before .readings-of .ensures)
-
-same-length : tie.Need-same-length
-same-length c = search needs
+report-parts-requires c κs =
+    let second = c .before .before in
+    let first = second .before in
+    let s = first .before .before .before .before in
+    parts-short (s .pre) (first .factors-of .ensures) (second .pattern-of .ensures) (c .before .readings-of .ensures)
 
 returns : tie.Need-returns
-returns c = displays-accepted (c .before .before .before .before .before .before .before .before .before .before .pre) (c .before .before .before .before .before .before .factors-of .ensures) (c .before .before .before .before .before .pattern-of .ensures) (c .before .before .before .before .readings-of .ensures) (c .before .before .report-parts .ensures)
+returns c =
+    let put = c .before .before in
+    let third = put .before .before in
+    let first = third .before .before in
+    let s = first .before .before .before .before in
+    displays-accepted (s .pre) (first .factors-of .ensures) (third .before .pattern-of .ensures) (third .readings-of .ensures) (put .report-parts .ensures)
 
 pub report-accepted-spec : {M : Type 1} → statement M
 report-accepted-spec =
     tie.close
     (tie.spec
-    factors-of-requires
-    pattern-of-requires
-    readings-of-requires
+    (λ c κs. search needs)
+    (λ c κs. search needs)
+    (λ c κs. search needs)
     report-parts-requires
-    same-length
+    (λ c. search needs)
     returns)

@@ -5,20 +5,8 @@ use borrow.Author.Needs.{needs}
 use Rattle.sheet.proofs.cut.Statement.{statement}
 use Rattle.sheet.proofs.cut.Tie as tie
 
-add-end : tie.Need-add-end
-add-end c = search needs
-
-sub-result : tie.Need-sub-result
-sub-result c = search needs
-
-part-result-start : tie.Need-part-result-start
-part-result-start c = search needs
-
-part-result-end : tie.Need-part-result-end
-part-result-end c = search needs
-
 returns : tie.Need-returns
 returns c = let part = c .before .before .args .part in record { bytes = rw (add-sub-cancel-left (part .from) (part .len)); place = refl }
 
 pub cut-spec : {M : Type 1} → statement M
-cut-spec = tie.close (tie.spec add-end sub-result part-result-start part-result-end returns)
+cut-spec = tie.close (tie.spec (λ c. search needs) (λ c. search needs) (λ c. search needs) (λ c. search needs) returns)

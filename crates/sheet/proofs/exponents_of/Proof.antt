@@ -6,7 +6,7 @@ use lib.ListN.{length, drop, length-set}
 use Rattle.sums.specs.Table.{table}
 use Rattle.sums.proofs.Fill.{fill-none, fill-step, fill-all}
 use Rattle.sheet.specs.Entries.{exponent-of}
-use Rattle.sheet.proofs.Bytes.{holds-entry}
+use Rattle.sheet.proofs.Entries.{holds-entry}
 use borrow.Author.Needs.{needs}
 use native.Mathlib.Omega.{arith}
 use Rattle.sheet.proofs.exponents_of.Statement.{statement}
@@ -30,22 +30,10 @@ add-out c = let inside = holds-entry (c .before .loop .i) (c .before .before .pr
 shared-slice-read-out : tie.Need-shared-slice-read-out Inv-loop μ-loop
 shared-slice-read-out c = let inside = holds-entry (c .before .before .loop .i) (c .before .before .before .pre) (omega arith) in search needs
 
-slice-write-out : tie.Need-slice-write-out Inv-loop μ-loop
-slice-write-out c = search needs
-
-add-i : tie.Need-add-i Inv-loop μ-loop
-add-i c = search needs
-
-loop-less : tie.Need-loop-less Inv-loop μ-loop
-loop-less c = search needs
-
 loop-again : tie.Need-loop-again Inv-loop μ-loop
 loop-again c =
     let given = c .before .before .before .args in
     (omega arith, cc (fill-step (exponent-of (given .part .now)) (given .out .now) (c .before .before .loop .i) (omega arith)), simp length-set (omega arith))
-
-same-length : tie.Need-same-length Inv-loop μ-loop
-same-length c = search needs
 
 returns : tie.Need-returns Inv-loop μ-loop
 returns c =
@@ -63,9 +51,9 @@ exponents-of-spec =
     mul-at
     add-out
     shared-slice-read-out
-    slice-write-out
-    add-i
-    loop-less
+    (λ c. search needs)
+    (λ c. search needs)
+    (λ c. search needs)
     loop-again
-    same-length
+    (λ c. search needs)
     returns)

@@ -8,14 +8,14 @@ use denote.Ref.{now}
 use Rattle.answer.specs.declared.Check.{Check}
 use Rattle.answer.specs.declared.Check.the-variants.{Passed, Refused}
 use Rattle.answer.specs.declared.Refusal.{Refusal}
-use Rattle.sheet.specs.Numbers.{big-endian}
-use Rattle.sheet.specs.Fields.{absent}
-use Rattle.sheet.specs.Walk.{accepted, unless, reading}
+use Rattle.bytes.specs.Numbers.{big-endian}
+use Rattle.fields.specs.Fields.{absent}
+use Rattle.fields.specs.Walk.{accepted, unless, reading}
 use Rattle.sheet.specs.Steps.{Ended}
 use Rattle.sheet.specs.Sheets.{sheet-of}
-use Rattle.sheet.specs.declared.Part.{Part}
+use Rattle.fields.specs.declared.Part.{Part}
 use Rattle.sheet.specs.declared.Step.{Step}
-use Rattle.sheet.proofs.Table.{modulus-inside}
+use Rattle.fields.proofs.Table.{modulus-inside}
 use borrow.Author.Needs.{needs}
 use Rattle.sheet.proofs.finished.Statement.{statement}
 use Rattle.sheet.proofs.finished.Tie as tie
@@ -40,24 +40,24 @@ enum-told c = search needs
 
 number-at-requires : tie.Need-number-at-requires
 number-at-requires c κs =
-    let start = c .before .before .before .before .before .before .before .before in
-    four-more (now (start .args .bytes)) (start .pre) (c .before .before .before .before .enum-told .given .1)
-
-enum-known-check : tie.Need-enum-known-check
-enum-known-check c = search needs
-
-absent-requires : tie.Need-absent-requires
-absent-requires c κs = search needs
+    let known = c .before .before .before .before in
+    let start = known .before .before .before .before in
+    four-more (now (start .args .bytes)) (start .pre) (known .enum-told .given .1)
 
 returns : tie.Need-returns
 returns c =
-    let start = c .before .before .before .before .before .before .before .before .before in
-    tells (now (start .args .bytes)) (start .pre) (c .before .before .before .before .before .enum-told .given .1) (c .number-at .ensures)
+    let modulus = c .before in
+    let known = modulus .before .before .before .before in
+    let start = known .before .before .before .before in
+    tells (now (start .args .bytes)) (start .pre) (known .enum-told .given .1) (c .number-at .ensures)
 
 returns-2 : tie.Need-returns-2
-returns-2 c = let start = c .before .before .before .before .before .before in refuses (now (start .args .bytes)) (start .pre) (c .before .before .check .given .1) (c .absent .ensures)
+returns-2 c =
+    let known = c .before .before in
+    let start = known .before .before .before .before in
+    refuses (now (start .args .bytes)) (start .pre) (known .check .given .1) (c .absent .ensures)
 
 pub finished-spec : {M : Type 1} → statement M
 finished-spec =
     tie.close
-    (tie.spec enum-told number-at-requires enum-known-check absent-requires returns returns-2)
+    (tie.spec enum-told number-at-requires (λ c. search needs) (λ c κs. search needs) returns returns-2)

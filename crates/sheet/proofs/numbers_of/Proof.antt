@@ -6,7 +6,7 @@ use lib.ListN.{length, drop, length-set}
 use Rattle.sums.specs.Table.{table}
 use Rattle.sums.proofs.Fill.{fill-none, fill-step, fill-all}
 use Rattle.sheet.specs.Entries.{number-of}
-use Rattle.sheet.proofs.Bytes.{holds-entry}
+use Rattle.sheet.proofs.Entries.{holds-entry}
 use borrow.Author.Needs.{needs}
 use native.Mathlib.Omega.{arith}
 use Rattle.sheet.proofs.numbers_of.Statement.{statement}
@@ -27,25 +27,11 @@ mul-at c = let inside = holds-entry (c .before .loop .i) (c .before .before .bef
 number-at-requires : tie.Need-number-at-requires Inv-loop μ-loop
 number-at-requires c κs = omega (arith, holds-entry (c .before .loop .i) (c .before .before .before .before .pre) (omega arith), c .before .before .before .before .pre .wide)
 
-mul-out : tie.Need-mul-out Inv-loop μ-loop
-mul-out c = search needs
-
-slice-write-out : tie.Need-slice-write-out Inv-loop μ-loop
-slice-write-out c = search needs
-
-add-i : tie.Need-add-i Inv-loop μ-loop
-add-i c = search needs
-
-loop-less : tie.Need-loop-less Inv-loop μ-loop
-loop-less c = search needs
-
 loop-again : tie.Need-loop-again Inv-loop μ-loop
 loop-again c =
-    let given = c .before .before .before .before .before .args in
-    (omega arith, cc (fill-step (number-of (given .step) (given .part .now)) (given .out .now) (c .before .before .loop .i) (omega arith), c .number-at .ensures), simp length-set (omega arith))
-
-same-length : tie.Need-same-length Inv-loop μ-loop
-same-length c = search needs
+    let head = c .before .before in
+    let given = head .before .before .before .args in
+    (omega arith, cc (fill-step (number-of (given .step) (given .part .now)) (given .out .now) (head .loop .i) (omega arith), c .number-at .ensures), simp length-set (omega arith))
 
 returns : tie.Need-returns Inv-loop μ-loop
 returns c =
@@ -62,10 +48,10 @@ numbers-of-spec =
     loop-holds
     mul-at
     number-at-requires
-    mul-out
-    slice-write-out
-    add-i
-    loop-less
+    (λ c. search needs)
+    (λ c. search needs)
+    (λ c. search needs)
+    (λ c. search needs)
     loop-again
-    same-length
+    (λ c. search needs)
     returns)

@@ -2,7 +2,7 @@
 use mathlib.Core.Path.{subst}
 use Rattle.sheet.specs.Sheets.{IsPart}
 use Rattle.sheet.specs.declared.Sheet.{Sheet}
-use Rattle.sheet.proofs.Sound.{sheet-inside}
+use Rattle.sheet.proofs.Parts.{sheet-inside}
 use Rattle.sheet.proofs.readings_of.Statement.{statement}
 use Rattle.sheet.proofs.readings_of.Tie as tie
 

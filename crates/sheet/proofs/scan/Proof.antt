@@ -44,11 +44,12 @@ use denote.Triple.Walked.{says, Stays, stay-none-slice, walkOf, goes-none-slice,
 use denote.Exit.{yes}
 use denote.Triple.Clauses.{ensured, lasts}
 use Rattle.answer.specs.declared.Check.the-variants.{Passed}
-use Rattle.sheet.specs.Fields.{Field}
-use Rattle.sheet.specs.Steps.{kept, Reached, step, Ended}
+use Rattle.fields.specs.Fields.{Field}
+use Rattle.fields.specs.Kept.{kept}
+use Rattle.sheet.specs.Steps.{Reached, step, Ended}
 use Rattle.sheet.specs.declared.Walk.{Walk}
 use Rattle.sheet.specs.declared.Step.{Step}
-use Rattle.sheet.proofs.Walks.{Stands, Walks, left, begins, turn-walks, turn-less}
+use Rattle.sheet.proofs.Turns.{Stands, Walks, left, begins, turn-walks, turn-less}
 use Rattle.sheet.proofs.Walk as T
 use Rattle.sheet.proofs.Walk.Laws as T′
 use Rattle.sheet.proofs.Step as S

@@ -4,14 +4,8 @@ use borrow.Author.Needs.{needs}
 use Rattle.sheet.proofs.started.Statement.{statement}
 use Rattle.sheet.proofs.started.Tie as tie
 
-nothing-yet-requires : tie.Need-nothing-yet-requires
-nothing-yet-requires c κs = search needs
-
-going-on-requires : tie.Need-going-on-requires
-going-on-requires c κs = search needs
-
 returns : tie.Need-returns
 returns c = c .going-on .ensures ∙ rw (c .before .nothing-yet .ensures)
 
 pub started-spec : {M : Type 1} → statement M
-started-spec = tie.close (tie.spec nothing-yet-requires going-on-requires returns)
+started-spec = tie.close (tie.spec (λ c κs. search needs) (λ c κs. search needs) returns)

@@ -42,8 +42,9 @@ use denote.Triple.Table.{entered, cited}
 use denote.Triple.Walked.{says, needs, Stays, stay-none, walkOf, goes-none, Walks, ends-at, walked, walk-meets}
 use denote.Exit.{yes}
 use denote.Triple.Clauses.{ensured, lasts}
-use Rattle.sheet.specs.Fields.{Field}
-use Rattle.sheet.specs.Steps.{kept, Reached, step}
+use Rattle.fields.specs.Fields.{Field}
+use Rattle.fields.specs.Kept.{kept}
+use Rattle.sheet.specs.Steps.{Reached, step}
 use Rattle.sheet.specs.declared.Walk.{Walk}
 use Rattle.sheet.specs.declared.Step.{Step}
 use Rattle.sheet.proofs.Walk as T

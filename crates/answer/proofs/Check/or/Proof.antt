@@ -3,17 +3,8 @@ use borrow.Author.Needs.{needs}
 use Rattle.answer.proofs.Check.or.Statement.{statement}
 use Rattle.answer.proofs.Check.or.Tie as tie
 
-enum-told : tie.Need-enum-told
-enum-told c = search needs
-
-enum-known-self : tie.Need-enum-known-self
-enum-known-self c = search needs
-
-returns : tie.Need-returns
-returns c = search needs
-
 returns-2 : tie.Need-returns-2
 returns-2 c = cc
 
 pub or-spec : {M : Type 1} → statement M
-or-spec = tie.close (tie.spec enum-told enum-known-self returns returns-2)
+or-spec = tie.close (tie.spec (λ c. search needs) (λ c. search needs) (λ c. search needs) returns-2)

@@ -16,40 +16,29 @@ Inv-loop primes exponents before₀ i₀ before i = (i ≤ length primes) × (Ri
 abbrev μ-loop : tie.MeasureT-loop
 μ-loop primes exponents before₀ i₀ before i = length primes - i
 
+-- From the loop's head back to the start, and from the test of an entry back to the loop's head.
+abbrev begin : tie.At-loop Inv-loop μ-loop → tie.Start Inv-loop μ-loop
+begin h = h .before .before .before .before
+
+abbrev head : tie.After-entry-fault Inv-loop μ-loop → tie.At-loop Inv-loop μ-loop
+head d = d .before .before .before .before
+
 returns : tie.Need-returns Inv-loop μ-loop
 returns c = fault-yes (λ r. omega (arith, c .if1 .taken, rising-same 0 (c .before .before .before .args .primes .now) (c .before .before .before .args .exponents .now) r))
 
 loop-holds : tie.Need-loop-holds Inv-loop μ-loop
 loop-holds c = (omega arith, (λ r. r), (λ r. r))
 
-mul-p : tie.Need-mul-p Inv-loop μ-loop
-mul-p c = search needs
-
-shared-slice-read-p : tie.Need-shared-slice-read-p Inv-loop μ-loop
-shared-slice-read-p c = search needs
-
-shared-slice-read-e : tie.Need-shared-slice-read-e Inv-loop μ-loop
-shared-slice-read-e c = search needs
-
-entry-fault-requires : tie.Need-entry-fault-requires Inv-loop μ-loop
-entry-fault-requires c κs = search needs
-
 returns-2 : tie.Need-returns-2 Inv-loop μ-loop
 returns-2 c =
-    let s = c .before .before .before .before .before .before .before .before .before in
-    let v = c .before .before .before .before .before .loop in
+    let s = begin (head (c .before)) in
+    let v = head (c .before) .loop in
     fault-yes (λ r. c .before .entry-fault .ensures .fault (c .if2 .taken) (left-split (s .args .primes .now) (s .args .exponents .now) (v .i) (omega arith) (omega arith) (v .inv .1 r) .0))
-
-add-i : tie.Need-add-i Inv-loop μ-loop
-add-i c = search needs
-
-loop-less : tie.Need-loop-less Inv-loop μ-loop
-loop-less c = search needs
 
 loop-again : tie.Need-loop-again Inv-loop μ-loop
 loop-again c =
-    let s = c .before .before .before .before .before .before .before .before .before in
-    let v = c .before .before .before .before .before .loop in (
+    let s = begin (head (c .before)) in
+    let v = head (c .before) .loop in (
       omega arith,
       (λ r. left-split (s .args .primes .now) (s .args .exponents .now) (v .i) (omega arith) (omega arith) (v .inv .1 r) .1),
       (λ l. v .inv .2 (left-join (s .args .primes .now) (s .args .exponents .now) (v .i) (omega arith) (omega arith) (c .before .entry-fault .ensures .fine (c .if2 .left)) l)),
@@ -57,7 +46,7 @@ loop-again c =
 
 returns-3 : tie.Need-returns-3 Inv-loop μ-loop
 returns-3 c =
-    let s = c .before .before .before .before .before in
+    let s = begin (c .before) in
     let v = c .before .loop in
     fault-no (v .inv .2 (left-none (s .args .primes .now) (s .args .exponents .now) (v .i) (omega arith) (omega arith) (v .before)))
 
@@ -69,12 +58,12 @@ entries-fault-spec =
     μ-loop
     returns
     loop-holds
-    mul-p
-    shared-slice-read-p
-    shared-slice-read-e
-    entry-fault-requires
+    (λ c. search needs)
+    (λ c. search needs)
+    (λ c. search needs)
+    (λ c κs. search needs)
     returns-2
-    add-i
-    loop-less
+    (λ c. search needs)
+    (λ c. search needs)
     loop-again
     returns-3)

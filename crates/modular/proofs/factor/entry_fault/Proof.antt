@@ -11,9 +11,6 @@ use Rattle.modular.proofs.factor.entry_fault.Tie as tie
 returns : tie.Need-returns
 returns c = fault-yes (λ r. omega (arith, r .exponent))
 
-is-prime-requires : tie.Need-is-prime-requires
-is-prime-requires c κs = search needs
-
 returns-2 : tie.Need-returns-2
 returns-2 c = fault-yes (λ r. true≢false (sym (c .before .is-prime .ensures .told (r .prime)) ∙ not-true _ (c .if2 .taken)))
 
@@ -24,4 +21,4 @@ returns-4 : tie.Need-returns-4
 returns-4 c = fault-no (record { exponent = omega (arith, c .before .before .before .if1 .left); prime = c .before .before .is-prime .ensures .is (not-false _ (c .before .if2 .left)); above = omega arith })
 
 pub entry-fault-spec : {M : Type 1} → statement M
-entry-fault-spec = tie.close (tie.spec returns is-prime-requires returns-2 returns-3 returns-4)
+entry-fault-spec = tie.close (tie.spec returns (λ c κs. search needs) returns-2 returns-3 returns-4)

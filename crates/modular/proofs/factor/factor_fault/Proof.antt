@@ -6,14 +6,8 @@ use borrow.Author.Needs.{needs}
 use Rattle.modular.proofs.factor.factor_fault.Statement.{statement}
 use Rattle.modular.proofs.factor.factor_fault.Tie as tie
 
-entries-fault-requires : tie.Need-entries-fault-requires
-entries-fault-requires c κs = search needs
-
 returns : tie.Need-returns
 returns c = fault-yes (λ f. c .before .entries-fault .ensures .fault (c .if1 .taken) (f .rising))
-
-wide-requires : tie.Need-wide-requires
-wide-requires c κs = search needs
 
 product-requires : tie.Need-product-requires
 product-requires c κs = c .before .before .entries-fault .ensures .fine (c .before .if1 .left)
@@ -32,4 +26,4 @@ returns-2 c =
 
 pub factor-fault-spec : {M : Type 1} → statement M
 factor-fault-spec =
-    tie.close (tie.spec entries-fault-requires returns wide-requires product-requires returns-2)
+    tie.close (tie.spec (λ c κs. search needs) returns (λ c κs. search needs) product-requires returns-2)

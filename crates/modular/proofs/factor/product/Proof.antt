@@ -16,6 +16,10 @@ Inv-loop primes exponents m x₀ i₀ x i = (i ≤ length primes) × Running m p
 abbrev μ-loop : tie.MeasureT-loop
 μ-loop primes exponents m x₀ i₀ x i = length primes - i
 
+-- From the loop's head back to the start.
+abbrev begin : tie.At-loop Inv-loop μ-loop → tie.Start Inv-loop μ-loop
+begin h = h .before .before .before
+
 -- Both lists are of one length.
 same : (s : tie.Start Inv-loop μ-loop) → length (s .args .primes .now) ≡ length (s .args .exponents .now)
 same s = rising-same 0 (s .args .primes .now) (s .args .exponents .now) (s .pre)
@@ -23,36 +27,24 @@ same s = rising-same 0 (s .args .primes .now) (s .args .exponents .now) (s .pre)
 loop-holds : tie.Need-loop-holds Inv-loop μ-loop
 loop-holds c = (omega arith, running-start _ _ _ (c .before .before .pre))
 
-mul-p : tie.Need-mul-p Inv-loop μ-loop
-mul-p c = search needs
-
-shared-slice-read-p : tie.Need-shared-slice-read-p Inv-loop μ-loop
-shared-slice-read-p c = search needs
-
 shared-slice-read-e : tie.Need-shared-slice-read-e Inv-loop μ-loop
-shared-slice-read-e c = omega (arith, same (c .before .before .before .before .before .before))
+shared-slice-read-e c = omega (arith, same (begin (c .before .before .before)))
 
 times-power-requires : tie.Need-times-power-requires Inv-loop μ-loop
 times-power-requires c κs =
-    let s = c .before .before .before .before .before .before in
+    let s = begin (c .before .before .before) in
     let v = c .before .before .before .loop in
     omega (arith, left-split (s .args .primes .now) (s .args .exponents .now) (v .i) (omega arith) (omega (arith, same s)) (v .inv .1 .left) .0 .above)
 
-add-i : tie.Need-add-i Inv-loop μ-loop
-add-i c = search needs
-
-loop-less : tie.Need-loop-less Inv-loop μ-loop
-loop-less c = search needs
-
 loop-again : tie.Need-loop-again Inv-loop μ-loop
 loop-again c =
-    let s = c .before .before .before .before .before .before .before in
+    let s = begin (c .before .before .before .before) in
     let v = c .before .before .before .before .loop in
     (omega arith, running-next (s .args .m) (s .args .primes .now) (s .args .exponents .now) (v .i) (v .x) _ (omega arith) (omega (arith, same s)) (c .times-power .ensures) (v .inv .1))
 
 returns : tie.Need-returns Inv-loop μ-loop
 returns c =
-    let s = c .before .before .before .before in
+    let s = begin (c .before) in
     let v = c .before .loop in
     running-end (s .args .m) (s .args .primes .now) (s .args .exponents .now) (v .i) (v .x) (omega arith) (omega (arith, same s)) (v .inv .1)
 
@@ -63,11 +55,11 @@ product-spec =
     Inv-loop
     μ-loop
     loop-holds
-    mul-p
-    shared-slice-read-p
+    (λ c. search needs)
+    (λ c. search needs)
     shared-slice-read-e
     times-power-requires
-    add-i
-    loop-less
+    (λ c. search needs)
+    (λ c. search needs)
     loop-again
     returns)

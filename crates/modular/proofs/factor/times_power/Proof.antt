@@ -15,36 +15,29 @@ Inv-loop x p e m base most product₀ k₀ product k = (k ≤ e) × (product ≡
 abbrev μ-loop : tie.MeasureT-loop
 μ-loop x p e m base most product₀ k₀ product k = e - k
 
-wide-requires : tie.Need-wide-requires Inv-loop μ-loop
-wide-requires c κs = search needs
-
-wide-requires-2 : tie.Need-wide-requires-2 Inv-loop μ-loop
-wide-requires-2 c κs = search needs
+-- From the loop's head back to the start.
+abbrev begin : tie.At-loop Inv-loop μ-loop → tie.Start Inv-loop μ-loop
+begin h = h .before .before .before
 
 loop-holds : tie.Need-loop-holds Inv-loop μ-loop
 loop-holds c = (omega arith, omega (arith, ap (λ (z : ℕ). c .before .before .args .x * z) (pow-zero (c .before .before .args .p))))
 
 returns : tie.Need-returns Inv-loop μ-loop
 returns c =
-    let a = c .before .before .before .before .before .args in
+    let s = begin (c .before .before) in
+    let a = s .args in
     let v = c .before .before .loop in
     record {
       same = λ l. absurd (omega arith);
-      over = λ l. omega (arith, v .inv .1, mul-le-mul-left (a .x) (pow-le-pow-right {n = a .p} (c .before .before .before .before .before .pre) {i = v .k} {j = a .e} (omega arith)));
+      over = λ l. omega (arith, v .inv .1, mul-le-mul-left (a .x) (pow-le-pow-right {n = a .p} (s .pre) {i = v .k} {j = a .e} (omega arith)));
     }
 
 mul-product : tie.Need-mul-product Inv-loop μ-loop
 mul-product c = omega (arith, mul-le-mul {n₁ = c .before .before .loop .product} {m₁ = c .before .before .before .before .wide .result} {n₂ = 2 ^ 32 - 1} {m₂ = 2 ^ 32 - 1} (omega arith) (omega arith))
 
-add-k : tie.Need-add-k Inv-loop μ-loop
-add-k c = search needs
-
-loop-less : tie.Need-loop-less Inv-loop μ-loop
-loop-less c = search needs
-
 loop-again : tie.Need-loop-again Inv-loop μ-loop
 loop-again c =
-    let a = c .before .before .before .before .before .args in
+    let a = begin (c .before .before) .args in
     let v = c .before .before .loop in (
       omega arith,
       (λ i. v .inv .1 i * c .before .before .before .before .wide .ensures i) ∙ mul-assoc (a .x) (a .p ^ v .k) (a .p) ∙ ap (λ (z : ℕ). a .x * z) (sym (pow-suc (a .p) (v .k)) ∙ ap (λ (z : ℕ). a .p ^ z) (sym (add-one (v .k)))),
@@ -52,7 +45,7 @@ loop-again c =
 
 returns-2 : tie.Need-returns-2 Inv-loop μ-loop
 returns-2 c =
-    let a = c .before .before .before .before .args in
+    let a = begin (c .before) .args in
     let v = c .before .loop in
     let e : v .product ≡ a .x * a .p ^ a .e = v .inv .1 ∙ ap (λ (z : ℕ). a .x * a .p ^ z) (omega arith) in
     record { same = λ l. e; over = λ l. omega arith }
@@ -63,12 +56,12 @@ times-power-spec =
     (tie.spec
     Inv-loop
     μ-loop
-    wide-requires
-    wide-requires-2
+    (λ c κs. search needs)
+    (λ c κs. search needs)
     loop-holds
     returns
     mul-product
-    add-k
-    loop-less
+    (λ c. search needs)
+    (λ c. search needs)
     loop-again
     returns-2)

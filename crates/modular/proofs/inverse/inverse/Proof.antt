@@ -12,23 +12,14 @@ Inv-loop y m a₀ b₀ s₀ t₀ a b s t = Dividing m y a b s t
 abbrev μ-loop : tie.MeasureT-loop
 μ-loop y m a₀ b₀ s₀ t₀ a b s t = b
 
-rem-b : tie.Need-rem-b Inv-loop μ-loop
-rem-b c = search needs
-
 loop-holds : tie.Need-loop-holds Inv-loop μ-loop
 loop-holds c = dividing-start (c .args .m) (c .args .y) (c .pre)
-
-div-t : tie.Need-div-t Inv-loop μ-loop
-div-t c = search needs
 
 mul-t : tie.Need-mul-t Inv-loop μ-loop
 mul-t c = omega (arith, half-low (c .before .loop .inv) (omega arith))
 
 add-t : tie.Need-add-t Inv-loop μ-loop
 add-t c = omega (arith, half-low (c .before .loop .inv) (omega arith))
-
-rem-a : tie.Need-rem-a Inv-loop μ-loop
-rem-a c = search needs
 
 sub-t10 : tie.Need-sub-t10 Inv-loop μ-loop
 sub-t10 c = half-low (c .before .before .loop .inv) (omega arith)
@@ -39,17 +30,11 @@ returns c = half-inverse (c .before .before .loop .inv) (c .before .loop-test .t
 returns-2 : tie.Need-returns-2 Inv-loop μ-loop
 returns-2 c = half-shares (c .before .before .before .loop .inv) (c .before .before .loop-test .taken) (c .if2 .taken)
 
-div-s : tie.Need-div-s Inv-loop μ-loop
-div-s c = search needs
-
 mul-s : tie.Need-mul-s Inv-loop μ-loop
 mul-s c = omega (arith, full-low (c .before .before .before .loop .inv) (omega arith))
 
 add-s : tie.Need-add-s Inv-loop μ-loop
 add-s c = omega (arith, full-low (c .before .before .before .loop .inv) (omega arith))
-
-rem-b-2 : tie.Need-rem-b-2 Inv-loop μ-loop
-rem-b-2 c = search needs
 
 loop-less : tie.Need-loop-less Inv-loop μ-loop
 loop-less c = full-less (c .before .before .before .loop .inv) (omega arith) (omega arith)
@@ -66,4 +51,4 @@ returns-4 c = end-shares (c .before .before .loop .inv) (omega arith)
 pub inverse-spec : {M : Type 1} → statement M
 inverse-spec =
     tie.close
-    (tie.spec Inv-loop μ-loop rem-b loop-holds div-t mul-t add-t rem-a sub-t10 returns returns-2 div-s mul-s add-s rem-b-2 loop-less loop-again returns-3 returns-4)
+    (tie.spec Inv-loop μ-loop (λ c. search needs) loop-holds (λ c. search needs) mul-t add-t (λ c. search needs) sub-t10 returns returns-2 (λ c. search needs) mul-s add-s (λ c. search needs) loop-less loop-again returns-3 returns-4)

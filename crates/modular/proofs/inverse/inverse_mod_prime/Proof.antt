@@ -8,9 +8,6 @@ use Rattle.modular.proofs.inverse.inverse_mod_prime.Tie as tie
 inverse-requires : tie.Need-inverse-requires
 inverse-requires c κs = omega (arith, c .pre .prime .two)
 
-enum-known-z : tie.Need-enum-known-z
-enum-known-z c = search needs
-
 enum-told : tie.Need-enum-told
 enum-told c = search needs
 
@@ -22,4 +19,4 @@ returns-2 c = absurd (prime-shares (c .before .before .before .pre) (c .before .
 
 pub inverse-mod-prime-spec : {M : Type 1} → statement M
 inverse-mod-prime-spec =
-    tie.close (tie.spec inverse-requires enum-known-z enum-told returns returns-2)
+    tie.close (tie.spec inverse-requires (λ c. search needs) enum-told returns returns-2)

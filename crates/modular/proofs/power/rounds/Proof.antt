@@ -6,12 +6,6 @@ use borrow.Author.Needs.{needs}
 use Rattle.modular.proofs.power.rounds.Statement.{statement}
 use Rattle.modular.proofs.power.rounds.Tie as tie
 
-returns : tie.Need-returns
-returns c = search needs
-
-sub-result : tie.Need-sub-result
-sub-result c = search needs
-
 sub-result-2 : tie.Need-sub-result-2
 sub-result-2 c = leading-le 32 _
 
@@ -19,4 +13,4 @@ returns-2 : tie.Need-returns-2
 returns-2 c = rounds-digits (c .before .args .k) (omega arith) (omega arith)
 
 pub rounds-spec : {M : Type 1} → statement M
-rounds-spec = tie.close (tie.spec returns sub-result sub-result-2 returns-2)
+rounds-spec = tie.close (tie.spec (λ c. search needs) (λ c. search needs) sub-result-2 returns-2)

@@ -27,6 +27,10 @@ Inv-loop p d₀ q₀ d q = Trying p d q
 abbrev μ-loop : tie.MeasureT-loop
 μ-loop p d₀ q₀ d q = p - d
 
+-- The number, from the loop's head.
+abbrev number : tie.At-loop Inv-loop μ-loop → ℕ
+number h = h .before .before .before .args .p
+
 returns : tie.Need-returns Inv-loop μ-loop
 returns c = tells-none (λ pr. omega (arith, pr .two))
 
@@ -42,12 +46,12 @@ loop-holds : tie.Need-loop-holds Inv-loop μ-loop
 loop-holds c = record { two = omega arith; odd = c .if2 .left; step = refl; from = omega arith; free = free-start (c .before .before .args .p) (c .if2 .left); quotient = refl }
 
 -- In a turn d is at most a third of p.
-low : (c : tie.In-loop Inv-loop μ-loop) → 3 * c .before .loop .d ≤ c .before .before .before .before .args .p
+low : (c : tie.In-loop Inv-loop μ-loop) → 3 * c .before .loop .d ≤ number (c .before)
 low c = tried-low _ _ (c .before .loop .inv .from) (omega (arith, c .before .loop .inv .quotient))
 
 mul-if3 : tie.Need-mul-if3 Inv-loop μ-loop
 mul-if3 c =
-    let p = c .before .before .before .before .args .p in
+    let p = number (c .before) in
     let v = c .before .loop in
     omega (arith, ap (λ (x : ℕ). v .d * x) (v .inv .quotient), mul-div-le p (v .d))
 
@@ -59,15 +63,12 @@ returns-3 c =
 add-d : tie.Need-add-d Inv-loop μ-loop
 add-d c = omega (arith, low (c .before))
 
-div-q : tie.Need-div-q Inv-loop μ-loop
-div-q c = search needs
-
 loop-less : tie.Need-loop-less Inv-loop μ-loop
 loop-less c = omega (arith, low (c .before))
 
 loop-again : tie.Need-loop-again Inv-loop μ-loop
 loop-again c =
-    let p = c .before .before .before .before .before .args .p in
+    let p = number (c .before .before) in
     let l = c .before .before .loop in
     let v = l .inv in
     let not : p % l .d ≢ 0 = λ e. c .if3 .left (ap (λ (x : ℕ). l .d * x) (v .quotient) ∙ omega (arith, div-add-mod p (l .d))) in
@@ -76,7 +77,7 @@ loop-again c =
 returns-4 : tie.Need-returns-4 Inv-loop μ-loop
 returns-4 c =
     let v = c .before .loop .inv in
-    tells-prime (free-prime (c .before .before .before .before .args .p) (c .before .loop .d) (v .two) (omega (arith, v .quotient)) (v .free))
+    tells-prime (free-prime (number (c .before)) (c .before .loop .d) (v .two) (omega (arith, v .quotient)) (v .free))
 
 pub is-prime-spec : {M : Type 1} → statement M
-is-prime-spec = tie.close (tie.spec Inv-loop μ-loop returns returns-2 loop-holds mul-if3 returns-3 add-d div-q loop-less loop-again returns-4)
+is-prime-spec = tie.close (tie.spec Inv-loop μ-loop returns returns-2 loop-holds mul-if3 returns-3 add-d (λ c. search needs) loop-less loop-again returns-4)

@@ -1,0 +1,4 @@
+pub mod Block
+pub mod Along
+pub mod Four
+pub mod Asks

@@ -1,0 +1,4 @@
+pub mod Checks
+pub mod Factors
+pub mod Order
+pub mod Legal

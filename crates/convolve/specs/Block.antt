@@ -1,9 +1,0 @@
--- The most products that are added before a remainder is taken, and the most entries that are laid out in the small arrays.
--- The same names stand in src/lib.rt. That a block's sum with a remainder beside it fits 64 bits is `block-fits` in proofs/Word.antt.
-use Prim.Native.Nat.{ℕ}
-
-abbrev pub block : ℕ
-block = 1024
-
-abbrev pub few : ℕ
-few = 128

@@ -1,0 +1,3 @@
+-- What unmixing gives, and what comparing two sides gives.
+pub mod Unmixing
+pub mod Comparing

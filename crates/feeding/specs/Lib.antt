@@ -1,0 +1,2 @@
+pub mod Unmixings
+pub mod Inner

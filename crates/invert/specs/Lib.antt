@@ -1,0 +1,2 @@
+pub mod Inversions
+pub mod Inner

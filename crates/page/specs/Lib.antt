@@ -1,0 +1,3 @@
+pub mod Outcome
+pub mod Page
+pub mod Report

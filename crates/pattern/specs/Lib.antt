@@ -1,0 +1,13 @@
+pub mod Sent
+pub mod Factored
+pub mod Heard
+pub mod Counts
+pub mod Same
+pub mod Agree
+pub mod Singular
+pub mod Smallest
+pub mod GhostPolynomial
+pub mod Ghost
+pub mod Silent
+pub mod Contracts
+pub mod Granted

@@ -1,0 +1,1 @@
+// Patterns, what is heard through them and what undoes it: definitions, contracts and theorems only.

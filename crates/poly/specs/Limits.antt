@@ -1,7 +1,0 @@
--- x^n - 1 has n + 1 coefficients, and an array one place more, since a quotient's terms are taken two at a time: `places`, which is PLACES in
--- src/euclid.rt.
-use Prim.Native.Nat.{ℕ, _+_}
-use Rattle.limits.specs.Limits.{most-entries}
-
-abbrev pub places : ℕ
-places = most-entries + 2

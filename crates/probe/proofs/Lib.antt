@@ -1,0 +1,2 @@
+-- For each input one answer.
+pub mod OneAnswer

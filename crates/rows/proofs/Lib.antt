@@ -1,0 +1,3 @@
+-- Shoup's quotient; loops over rows.
+pub mod Shoup
+pub mod Rows

@@ -1,0 +1,9 @@
+pub mod Series
+pub mod Operations
+pub mod Congruent
+pub mod Inverse
+pub mod SharedFactor
+pub mod Ghost
+pub mod Haunted
+pub mod Remainder
+pub mod Rows
