@@ -1,5 +1,6 @@
 // Sums of products along a row, four at a time: what the product of rings is made of. A sum is added first and reduced last; where it has more than BLOCK
 // products, it is reduced once a block.
+use words::wide;
 ghost use mathlib.Core.Path.{_≡_};
 ghost use Prim.Native.Nat.{_+_, _*_, _%_, _^_, _<_};
 ghost use Rattle.along.specs.Along.{along};
@@ -15,12 +16,6 @@ pub struct Quad {
     pub s1: u64,
     pub s2: u64,
     pub s3: u64,
-}
-
-fn wide(x: u32) -> u64
-    ensures { λ r. ⌜ r ≡ x ⌝ }
-{
-    x as u64
 }
 
 // x, masked, so that LLVM sees a factor of 32 bits.

@@ -8,6 +8,7 @@ use checks::check_room;
 use convolve::convolve;
 use limits::LEAST_MODULUS;
 use slices::remainders;
+use words::wide;
 ghost use mathlib.Core.Path.{_≡_};
 ghost use Prim.Native.Nat.{_+_, _*_};
 ghost use lib.ListN.{length};
@@ -56,12 +57,6 @@ pub fn reduce(a: &[u32], m: u32, divisor: u32, out: &mut [u32]) -> Answer
         }
         Check::Refused(refusal) => Answer::Refused(refusal),
     }
-}
-
-fn wide(x: u32) -> u64
-    ensures { λ r. ⌜ r ≡ x ⌝ }
-{
-    x as u64
 }
 
 // The sum of the entries at k, k + step, k + 2 step, ..: one from each part.

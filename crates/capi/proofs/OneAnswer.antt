@@ -1,7 +1,7 @@
 -- For every input each exported call has one reply and one content of the output: any two that fit are equal, since the answers behind them are.
 -- Assumes nothing.
 use Prim.Native.Nat.{ℕ}
-use mathlib.Core.Path.{_≡_, sym, ap, _∙_}
+use mathlib.Core.Path.{_≡_, sym, _∙_}
 use mathlib.Core.List.{List}
 use Rattle.answer.specs.Reply.{Replied}
 use Rattle.answer.specs.declared.Reply.{Reply}

@@ -37,7 +37,7 @@ divisor-passes least n d e =
     let x = neither (ltb d least) (not (eqb (n % d) 0)) (passes _ Divisor 0 0 e) in
     (ltb-false d least (x .0), dvd-of-mod-eq-zero d (equal (n % d) 0 (x .1)))
 
-pub coefficient-passes : (m r : ℕ) (a : List ℕ) → coefficient m r a ≡ Passed → (i : ℕ) → i < length a → at a i < m
+coefficient-passes : (m r : ℕ) (a : List ℕ) → coefficient m r a ≡ Passed → (i : ℕ) → i < length a → at a i < m
 coefficient-passes m r a e i h = high-before m a i (omega (arith, ltb-false (first-high m a) (length a) (passes _ Coefficient r _ e)))
 
 -- ---- the parts of an order

@@ -5,6 +5,7 @@
 use along::Quad;
 use along::four_entries;
 use limits::MOST_ENTRIES;
+use words::wide;
 ghost use mathlib.Core.Path.{_≡_};
 ghost use mathlib.Core.List.{_++_};
 ghost use Prim.Native.Nat.{_+_, _%_, _^_, _<_, _≤_};
@@ -18,12 +19,6 @@ ghost use Rattle.convolve.specs.Inner.{Rows, HoldsOnce, RoomForBoth, Few
 
 // Rings of up to this many entries are laid out in small arrays, which cost less to clear.
 const FEW: usize = 128;
-
-fn wide(x: u32) -> u64
-    ensures { λ r. ⌜ r ≡ x ⌝ }
-{
-    x as u64
-}
 
 // v at k, unless out ends before k.
 fn put(out: &mut [u32], k: usize, v: u64)

@@ -8,6 +8,7 @@ ghost use Rattle.division.specs.Terms.{Front, Trimmed, Residues, Digit, 
 use rows::add_linear;
 use rows::plus_multiple;
 use rows::quotient;
+use words::wide;
 
 // (low + high x) x^shift, two terms of a quotient. w and v are what rows ask beside low and high.
 struct Terms {
@@ -16,12 +17,6 @@ struct Terms {
     high: u32,
     v: u32,
     shift: usize,
-}
-
-fn wide(x: u32) -> u64
-    ensures { λ r. ⌜ r ≡ x ⌝ }
-{
-    x as u64
 }
 
 // How many coefficients are left when the zeros at the top of the first len are dropped.

@@ -3,18 +3,13 @@ use convolve::convolve;
 use limits::MOST_ENTRIES;
 use modular::power::rounds;
 use slices::remainders;
+use words::wide;
 ghost use mathlib.Core.Path.{_≡_};
 ghost use Prim.Native.Nat.{_+_, _-_, _*_, _%_, _^_, min};
 ghost use lib.ListN.{length};
 ghost use Rattle.sums.specs.Table.{at, table};
 ghost use Rattle.ring.specs.Inverse.{Inverse};
 ghost use Rattle.lift.specs.Asks.{Lessened, Round, Rounded, Liftable, LiftableIn, Blendable, Blends, Joinable, Joined};
-
-fn wide(x: u32) -> u64
-    ensures { λ r. ⌜ r ≡ x ⌝ }
-{
-    x as u64
-}
 
 // g becomes 2 g - h modulo q.
 fn twice_less(g: &mut [u32], h: &[u32], q: u32)

@@ -2,6 +2,7 @@
 // the last byte that it wrote.
 use bytes::put_byte;
 use bytes::put_bytes;
+use words::wide;
 ghost use mathlib.Core.Path.{_≡_};
 ghost use mathlib.Core.List.{[], _∷_};
 ghost use Rattle.bytes.specs.Put.{PutsBytes};
@@ -43,12 +44,6 @@ pub fn put_number(text: &mut [u8], at: usize, x: u64) -> usize
 {
     let start = put_word(text, at, b" ");
     put_digits(text, start, x)
-}
-
-pub fn wide(x: u32) -> u64
-    ensures { λ r. ⌜ r ≡ x ⌝ }
-{
-    x as u64
 }
 
 // The entries of a ring, each after a blank.

@@ -1,5 +1,5 @@
 use crate::prime::is_prime;
-use crate::wide;
+use words::wide;
 ghost use Prim.Native.Nat.{_*_, _^_, _<_};
 ghost use Rattle.modular.specs.FactorList.{FactorEntry, Rising, powers, FactorList};
 ghost use Rattle.modular.specs.FactorFault.{Fault, Capped};

@@ -1,6 +1,4 @@
 // Numbers modulo a prime and modulo any m.
-ghost use mathlib.Core.Path.{_≡_};
-
 // Whether a number is a prime.
 pub mod prime;
 
@@ -12,9 +10,3 @@ pub mod power;
 
 // Factor lists.
 pub mod factor;
-
-fn wide(x: u32) -> u64
-    ensures { λ r. ⌜ r ≡ x ⌝ }
-{
-    x as u64
-}

@@ -10,7 +10,7 @@ use mathlib.Core.Option.{Option, none, some}
 use native.Mathlib.Omega.{arith}
 use borrow.Author.Tests.{eq-eqb, le-ltb}
 use lib.Dec.{eqb, ltb, leb}
-use lib.ListN.{length, length-take, drop, length-drop}
+use lib.ListN.{length}
 use Rattle.sums.specs.Table.{at}
 use Rattle.sums.proofs.Tables.{length-table}
 use Rattle.limits.specs.Limits.{most-entries, least-modulus, most-modulus, header-bytes, entry-bytes}
@@ -33,7 +33,6 @@ use Rattle.fields.specs.Fields.{Field, tag-at, length-at, field-at, next-at, la
 use Rattle.fields.specs.Tags.{tags, known-version, fit, lacks}
 use Rattle.fields.specs.Checks.{is-unknown, is-wrong, above-tags, value-order, field-order, end-check}
 use Rattle.fields.specs.Walk.{Reading, accepted, refused as refused-reading, unless, walk, reading}
-use Rattle.fields.specs.declared.Part.{Part}
 use Rattle.sheet.specs.Sheets.{told, sheet-of, bytes-of}
 use Rattle.sheet.specs.Entries.{number-of, entries-of}
 use Rattle.sheet.specs.Held.{Held, held, given}

@@ -70,7 +70,7 @@ after-one : (verdict : Check) (h : Held) {x y : Outcome} → AfterReading verdic
 after-one (Refused r) h a b = a ∙ sym b
 after-one Passed h {x} {y} a b = one-outcome h x y a b
 
-pub one-comes : (s : List ℕ) {x y : Outcome} → Comes s x → Comes s y → x ≡ y
+one-comes : (s : List ℕ) {x y : Outcome} → Comes s x → Comes s y → x ≡ y
 one-comes s a b = after-one (sheet-of s .verdict) (held s (sheet-of s)) a b
 
 -- ---- one text

@@ -7,7 +7,6 @@ use mathlib.Core.Option.{none, some}
 use native.Mathlib.Omega.{arith}
 use native.Mathlib.Decide.{decLe}
 use lib.ListN.{length}
-use Rattle.sums.specs.Table.{at}
 use Rattle.limits.specs.Limits.{most-entries, most-modulus, most-digits}
 use Rattle.ring.specs.Ring.{Ring}
 use Rattle.answer.specs.declared.Told.{Told}

@@ -6,7 +6,7 @@ use lines::put_line;
 use lines::put_named;
 use lines::put_number;
 use lines::put_word;
-use lines::wide;
+use words::wide;
 ghost use mathlib.Core.Path.{_≡_};
 ghost use mathlib.Core.Option.{none, some};
 ghost use Prim.Native.Nat.{_≤_};

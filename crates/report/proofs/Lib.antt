@@ -1,2 +1,1 @@
-pub mod Displaying
 pub mod Reading

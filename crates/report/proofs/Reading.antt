@@ -22,7 +22,8 @@ use Rattle.page.specs.Outcome.{refused, Comes}
 use Rattle.page.specs.Page.{refusal-line}
 use Rattle.page.specs.Report.{Displays}
 use Rattle.page.proofs.Parts.{part-long}
-use Rattle.report.specs.Inner.{decoded, in-parts, ShowsHeld, Parts, PartsIn, Accepted}
+use Rattle.display.specs.Decoded.{decoded, ShowsHeld}
+use Rattle.report.specs.Inner.{in-parts, Parts, PartsIn, Accepted}
 
 -- What is shown of what is held, in other words for what is held.
 displays-as : {h k : Held} {old new : List ℕ} {end : ℕ} → h ≡ k → ShowsHeld h old new end → ShowsHeld k old new end

@@ -1,41 +1,21 @@
 -- What the functions below `report` ask of each other.
-use Prim.Native.Nat.{ℕ, _*_, _/_, _≤_}
+use Prim.Native.Nat.{ℕ, _/_, _≤_}
 use mathlib.Core.Path.{_≡_}
 use mathlib.Core.Bool.{Bool}
 use mathlib.Core.List.{List}
 use lib.ListN.{length}
-use Rattle.limits.specs.Limits.{most-entries, factor-bytes, entry-bytes, most-factor-bytes, most-entry-bytes}
-use Rattle.answer.specs.First.{first}
+use Rattle.limits.specs.Limits.{factor-bytes, entry-bytes, most-factor-bytes, most-entry-bytes}
 use Rattle.answer.specs.declared.Check.the-variants.{Passed}
 use Rattle.sheet.specs.Sheets.{sheet-of}
 use Rattle.sheet.specs.Entries.{entries-of, primes-of, exponents-of}
 use Rattle.sheet.specs.declared.Sheet.{Sheet}
-use Rattle.sheet.specs.Held.{Held, given}
-use Rattle.page.specs.Outcome.{held-order, Shown}
-use Rattle.page.specs.Report.{text-room, Displays}
+use Rattle.sheet.specs.Held.{Held}
+use Rattle.page.specs.Report.{text-room}
+use Rattle.display.specs.Decoded.{decoded}
 
--- What a sheet holds, as the code has it: decoded, and in parts.
-abbrev pub decoded : (f y : List ℕ) (present : Bool) (m : ℕ) (ps es : List ℕ) → Held
-decoded f y present m ps es = record { modulus = m; primes = ps; exponents = es; pattern = f; readings = given present y }
-
+-- What a sheet holds in its parts.
 abbrev pub in-parts : (factors pattern readings : List ℕ) (present : Bool) (m : ℕ) → Held
 in-parts factors pattern readings present m = decoded (entries-of pattern) (entries-of readings) present m (primes-of factors) (exponents-of factors)
-
--- The page of what is shown of a sheet that holds h stands in the buffer.
-abbrev pub ShowsHeld : Held → (old new : List ℕ) (end : ℕ) → Type 0
-ShowsHeld h old new end = Displays (Shown h) h old new end
-
--- A sheet that holds h and that no check refuses, with room for the text.
-pub record Legal (h : Held) (text : List ℕ) : Type 0 where
-  pub passes : first (held-order h) ≡ Passed
-  pub few : length (h .pattern) ≤ most-entries
-  pub room : text-room ≤ length text
-
--- The same with room for an inverse and for counts.
-pub record LegalIn (h : Held) (inverse counts text : List ℕ) : Type 0 where
-  pub legal : Legal h text
-  pub inverse-room : length (h .pattern) ≤ length inverse
-  pub counts-room : length (h .pattern) ≤ length counts
 
 -- Parts that are no longer than a sheet's, with room for the text.
 pub record Parts (factors pattern readings text : List ℕ) : Type 0 where

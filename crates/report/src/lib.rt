@@ -1,17 +1,9 @@
 // What a sheet comes to, as text: the work of the program unmix.
 use answer::Check;
-use checks::check_factors;
-use checks::check_ring;
-use checks::check_rings;
-use feeding::unmix_legal;
-use invert::Inversion;
-use invert::invert_legal;
+use display::display;
 use limits::MOST_DIGITS;
 use limits::MOST_ENTRIES;
 use limits::MOST_FACTORS;
-use print::put_counts;
-use print::put_ghost;
-use print::put_inverse;
 use print::put_refusal;
 use sheet::Sheet;
 use sheet::exponents_of;
@@ -20,111 +12,15 @@ use sheet::numbers_of;
 use sheet::pattern_of;
 use sheet::read;
 use sheet::readings_of;
-ghost use mathlib.Core.Path.{_≡_};
-ghost use Prim.Native.Nat.{_≤_};
-ghost use lib.ListN.{length};
-ghost use Rattle.answer.specs.First.{first};
 ghost use Rattle.sheet.specs.Sheets.{sheet-of};
 ghost use Rattle.sheet.specs.Held.{held};
-ghost use Rattle.page.specs.Outcome.{held-order, Comes};
-ghost use Rattle.page.specs.Report.{text-room, Displays, Reports};
-ghost use Rattle.report.specs.Inner.{decoded, in-parts, ShowsHeld, Legal, LegalIn, Parts, PartsIn, Read, Accepted};
+ghost use Rattle.page.specs.Outcome.{Comes};
+ghost use Rattle.page.specs.Report.{Displays, Reports};
+ghost use Rattle.display.specs.Decoded.{ShowsHeld};
+ghost use Rattle.report.specs.Inner.{in-parts, Parts, PartsIn, Read, Accepted};
 
 // Room for every text: two rings with a blank before each entry, and the words.
 pub const TEXT_ROOM: usize = 2 * MOST_ENTRIES * (1 + MOST_DIGITS) + 128;
-
-// A legal sheet, with n entries or more lent for the inverse and for the counts.
-fn report_legal_in(
-    f: &[u32],
-    y: &[u32],
-    present: bool,
-    m: u32,
-    primes: &[u32],
-    exponents: &[u8],
-    inverse: &mut [u32],
-    counts: &mut [u32],
-    text: &mut [u8],
-) -> usize
-    requires { ⌜ LegalIn (decoded (now f) (now y) present m (now primes) (now exponents)) (now inverse) (now counts) (now text) ⌝ }
-    ensures { λ r. ⌜ ShowsHeld (decoded (now (f .entry)) (now (y .entry)) present m (now (primes .entry)) (now (exponents .entry))) (now (text .entry)) (now (text .exit)) r ⌝ }
-{
-    let n = f.len();
-    let g = &mut inverse[..n];
-    if present {
-        let c = &mut counts[..n];
-        return match unmix_legal(f, y, m, primes, exponents, g, c) {
-            Inversion::Inverted => put_counts(text, n, m, g, c),
-            Inversion::Ghost(p) => put_ghost(text, n, m, p, g),
-        };
-    }
-    match invert_legal(f, m, primes, exponents, g) {
-        Inversion::Inverted => put_inverse(text, n, m, g),
-        Inversion::Ghost(p) => put_ghost(text, n, m, p, g),
-    }
-}
-
-fn report_legal(
-    f: &[u32],
-    y: &[u32],
-    present: bool,
-    m: u32,
-    primes: &[u32],
-    exponents: &[u8],
-    text: &mut [u8],
-) -> usize
-    requires { ⌜ Legal (decoded (now f) (now y) present m (now primes) (now exponents)) (now text) ⌝ }
-    ensures { λ r. ⌜ ShowsHeld (decoded (now (f .entry)) (now (y .entry)) present m (now (primes .entry)) (now (exponents .entry))) (now (text .entry)) (now (text .exit)) r ⌝ }
-{
-    let mut inverse = [0u32; MOST_ENTRIES];
-    let mut counts = [0u32; MOST_ENTRIES];
-    report_legal_in(
-        f,
-        y,
-        present,
-        m,
-        primes,
-        exponents,
-        &mut inverse,
-        &mut counts,
-        text,
-    )
-}
-
-// "With readings present, both rings are checked before anything is inverted."
-fn check_held(
-    f: &[u32],
-    y: &[u32],
-    present: bool,
-    m: u32,
-    primes: &[u32],
-    exponents: &[u8],
-) -> Check
-    ensures { λ r. ⌜ r ≡ first (held-order (decoded (now (f .entry)) (now (y .entry)) present m (now (primes .entry)) (now (exponents .entry)))) ⌝ }
-{
-    let factors = check_factors(primes, exponents, m);
-    if present {
-        return check_rings(f, y, m, factors);
-    }
-    check_ring(f, m, factors)
-}
-
-fn report_rings(
-    f: &[u32],
-    y: &[u32],
-    present: bool,
-    m: u32,
-    primes: &[u32],
-    exponents: &[u8],
-    text: &mut [u8],
-) -> usize
-    requires { ⌜ text-room ≤ length (now text) ⌝ }
-    ensures { λ r. ⌜ ShowsHeld (decoded (now (f .entry)) (now (y .entry)) present m (now (primes .entry)) (now (exponents .entry))) (now (text .entry)) (now (text .exit)) r ⌝ }
-{
-    match check_held(f, y, present, m, primes, exponents) {
-        Check::Passed => report_legal(f, y, present, m, primes, exponents, text),
-        Check::Refused(refusal) => put_refusal(text, refusal),
-    }
-}
 
 // The parts of a sheet, with as many entries as they hold or more lent for each list.
 fn report_parts_in(
@@ -153,7 +49,7 @@ fn report_parts_in(
     exponents_of(factors, es);
     numbers_of(pattern, 4, first);
     numbers_of(readings, 4, second);
-    report_rings(first, second, present, m, ps, es, text)
+    display(first, second, present, m, ps, es, text)
 }
 
 fn report_parts(

@@ -38,10 +38,6 @@ module _ (n m : ℕ) where
   unfolding add zeros reduce
   add-zeros a = table-eq n _ _ λ k h. rw (at-table n _ k h, add-zero)
 
-  pub add-reduce : (a b : List ℕ) → add n m a (reduce n m b) ≡ add n m a b
-  unfolding add reduce
-  add-reduce a b = table-eq n _ _ λ k h. rw (at-table n _ k h, add-mod-mod)
-
   -- Less and then more.
   pub sub-add : (a b : List ℕ) → 0 < m → add n m (sub n m a b) b ≡ reduce n m a
   unfolding add sub reduce
@@ -80,19 +76,11 @@ module _ (n m : ℕ) where
   unfolding scale reduce
   scale-one a = table-eq n _ _ λ k h. ap (λ (x : ℕ). x % m) (omega arith)
 
-  pub scale-zero : (a : List ℕ) → scale n m 0 a ≡ zeros n
-  unfolding scale zeros
-  scale-zero a = table-eq n _ _ λ k h. ap (λ (x : ℕ). x % m) (omega arith) ∙ zero-mod m
-
   -- ---- what is reduced already
 
   pub reduce-table : (f : ℕ → ℕ) → reduce n m (table n (λ j. f j % m)) ≡ table n (λ k. f k % m)
   unfolding reduce
   reduce-table f = table-eq n _ _ λ k h. rw (at-table n _ k h) (mod-mod _ m)
-
-  pub reduce-add : (a b : List ℕ) → reduce n m (add n m a b) ≡ add n m a b
-  unfolding add
-  reduce-add a b = reduce-table _
 
   pub reduce-scale : (s : ℕ) (a : List ℕ) → reduce n m (scale n m s a) ≡ scale n m s a
   unfolding scale

@@ -3,7 +3,7 @@
 -- around, the sum over the places that are x modulo p depends on x modulo p alone. Assumes nothing.
 use Prim.Native.Nat.{ℕ, zero, suc, _+_, _*_, _-_, _%_, _/_, _<_, _∣_}
 use mathlib.Core.Path.{_≡_, refl, sym, ap, _∙_}
-use mathlib.Core.Bool.{Bool, true, false, cond}
+use mathlib.Core.Bool.{cond}
 use mathlib.Core.List.{List}
 use lib.Dec.{eqb}
 use borrow.Author.Tests.{eq-eqb, ne-eqb}
@@ -28,7 +28,7 @@ module _ (c p : ℕ) where
   inside k t h b = omega (arith, mul-le-mul-right p b)
 
   -- The sum over all places that are k modulo p, and over c parts.
-  pub sum-fold : (a : List ℕ) (k : ℕ) → k < p → sum (c * p) (λ i. cond (eqb (i % p) k) (at a i) 0) ≡ sum c (λ t. at a (k + t * p))
+  sum-fold : (a : List ℕ) (k : ℕ) → k < p → sum (c * p) (λ i. cond (eqb (i % p) k) (at a i) 0) ≡ sum c (λ t. at a (k + t * p))
   sum-fold a k h =
       sum-parts c p _ ∙ sum-eq c _ _ λ t _.
       sum-only p k _ h (λ i b d. rw (back i t b, ne-eqb i k d)) ∙ rw (back k t h, eq-eqb k k refl)

@@ -1,7 +1,7 @@
 -- Inverses: one at most; of a product exactly where both factors have one, and then the product of theirs; of an inverse the pattern; none beside a ghost.
 -- Each follows from the laws of the product alone. Assumes nothing.
 use Prim.Native.Nat.{ℕ, _%_, _<_}
-use mathlib.Core.Path.{_≡_, sym, ap, _∙_}
+use mathlib.Core.Path.{_≡_, sym, _∙_}
 use mathlib.Core.Logic.{_≢_, _↔_}
 use mathlib.Core.List.{List}
 use Rattle.sums.specs.Table.{at}

@@ -1,7 +1,7 @@
 -- Newton lifting (000, Lemma 3.2): an inverse g modulo q becomes 2 g - g² f modulo m, where q divides m and m divides q².
 -- f g is 1 + q e modulo m, so 1 + (f g)² and 2 f g differ by (q e)², a multiple of q². Assumes nothing.
 use Prim.Native.Nat.{ℕ, zero, suc, _+_, _*_, _-_, _%_, _/_, _^_, _<_, _∣_}
-use mathlib.Core.Path.{_≡_, refl, sym, ap, _∙_}
+use mathlib.Core.Path.{_≡_, sym, ap, _∙_}
 use mathlib.Core.Logic.{_↔_}
 use mathlib.Core.List.{List}
 use native.Mathlib.Omega.{arith}

@@ -1,14 +1,13 @@
 -- Mixing commutes, associates, distributes over sums and multiples, and `one` is its unit.
 -- The laws are equations of lists for every n and m and all lists: what reads only the first n entries modulo m does not care what else a list holds.
 -- One law carries all: a (c b) and c (a b) are one double sum with its two sums exchanged. Assumes nothing.
-use Prim.Native.Nat.{ℕ, zero, suc, _+_, _*_, _-_, _%_, _≤_, _<_}
-use mathlib.Core.Path.{_≡_, refl, sym, ap, _∙_}
-use mathlib.Core.Logic.{_≢_}
+use Prim.Native.Nat.{ℕ, _+_, _*_, _-_, _%_, _<_}
+use mathlib.Core.Path.{_≡_, sym, ap, _∙_}
 use mathlib.Core.List.{List}
 use native.Mathlib.Omega.{arith}
-use native.Mathlib.Nat.{mod-add-mod, add-mod-mod, mod-mod, zero-mod, mul-zero, mul-left-comm, add-right-comm, sub-self, mul-one, mul-add}
+use native.Mathlib.Nat.{mod-add-mod, add-mod-mod, zero-mod, mul-zero, mul-left-comm, add-right-comm, sub-self, mul-one, mul-add}
 use Rattle.sums.specs.Sum.{sum}
-use Rattle.sums.specs.Table.{at, table}
+use Rattle.sums.specs.Table.{at}
 use Rattle.sums.proofs.Remainders.{mul-mod, around-low, around-zero}
 use Rattle.sums.proofs.Sums.{sum-add, sum-mul, sum-swap, sum-empty, sum-only, sum-mod}
 use Rattle.sums.proofs.Tables.{at-table, at-turn, table-eq}
@@ -17,7 +16,7 @@ use Rattle.ring.specs.Mix.{mix}
 use Rattle.ring.specs.One.{first, one, zeros}
 use Rattle.ring.specs.Entrywise.{add, scale}
 use Rattle.ring.specs.Reduce.{reduce}
-use Rattle.ring.proofs.Entries.{first-later, table-ring, reduce-table, reduce-id, reduce-ring}
+use Rattle.ring.proofs.Entries.{first-later, table-ring, reduce-table, reduce-id}
 
 module _ (n m : ℕ) where
   -- Entry k of a (c b), as a double sum.

@@ -4,7 +4,7 @@ use Prim.Native.Nat.{ℕ, _%_, _<_, _∣_}
 use mathlib.Core.Path.{_≡_, sym, ap, _∙_}
 use mathlib.Core.List.{List}
 use native.Mathlib.Nat.{mod-mod-of-dvd}
-use Rattle.sums.specs.Table.{at, table}
+use Rattle.sums.specs.Table.{table}
 use Rattle.sums.proofs.Tables.{at-table, table-eq}
 use Rattle.ring.specs.Mix.{mix}
 use Rattle.ring.specs.One.{one}

@@ -1,15 +1,10 @@
 // Rows of numbers below a modulus p: multiples by a fixed factor, with no division for an entry.
+use words::wide;
 ghost use mathlib.Core.Path.{_≡_};
 ghost use Prim.Native.Nat.{_+_, _*_, _%_, _<_};
 ghost use lib.ListN.{length};
 ghost use Rattle.rows.specs.Row.{Prepared, LinearAddable, Scalable, times, times-linear, terms, plus};
 ghost use Rattle.rows.specs.Near.{Near, Entry, TwoEntries};
-
-fn wide(x: u32) -> u64
-    ensures { λ r. ⌜ r ≡ x ⌝ }
-{
-    x as u64
-}
 
 // The quotient of a factor f: computed once for a row, it spares a division for each entry.
 pub fn quotient(f: u32, p: u32) -> u32

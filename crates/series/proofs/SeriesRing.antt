@@ -37,10 +37,6 @@ module _ (m : ℕ) where
   unfolding red neg
   red-neg a = fun-ext λ k. mod-mod ((m - 1) * a k) m
 
-  pub red-zeros : red m zeros ≡ zeros
-  unfolding red zeros
-  red-zeros = fun-ext λ k. zero-mod m
-
   pub add-comm : (a b : Series) → add m a b ≡ add m b a
   unfolding add
   add-comm a b = fun-ext λ k. ap (λ (x : ℕ). x % m) {x = a k + b k} {y = b k + a k} (omega arith)

@@ -22,7 +22,7 @@ fill-step f d k h =
 pub fill-all : (f : ℕ → ℕ) (d : List ℕ) (k : ℕ) → k ≡ length d → table k f ++ drop k d ≡ table k f
 fill-all f d k e = simp (e, drop-length, append-nil)
 
-pub fill-length : (f : ℕ → ℕ) (d : List ℕ) (k : ℕ) → k ≤ length d → length (table k f ++ drop k d) ≡ length d
+fill-length : (f : ℕ → ℕ) (d : List ℕ) (k : ℕ) → k ≤ length d → length (table k f ++ drop k d) ≡ length d
 fill-length f d k h = simp (length-append, length-table, length-drop) (omega arith)
 
 -- A turn of the loop: it reads entry k of a, which is as it came, and stores entry k of the answer.

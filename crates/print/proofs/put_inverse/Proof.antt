@@ -1,6 +1,5 @@
 -- `print::put_inverse` meets its contract: the heading and the line, one after the other. Assumes nothing.
-use mathlib.Core.List.{List, [], append-nil, _++_}
-use Rattle.lines.specs.Items.{Item}
+use mathlib.Core.List.{append-nil, _++_}
 use Rattle.lines.specs.Puts.{Room}
 use Rattle.lines.proofs.Putting.{room-first, room-next, puts-append}
 use Rattle.page.specs.Page.{heading, inverse-line}

@@ -34,9 +34,6 @@ known d = d .before .before .before
 both : (k : tie.After-enum-told3) → let s = k .before .before .before in Room (ring s ++ place s) (s .args .at) (s .args .text .now)
 both k = let s = k .before .before .before in room-as RingAndPlace (k .enum-told3 .given .1) (s .args .ring) (s .args .place) (s .pre)
 
-enum-told : tie.Need-enum-told
-enum-told c = search needs
-
 put-named-requires : tie.Need-put-named-requires
 put-named-requires c κs =
     let k = c .before .before in
@@ -100,7 +97,7 @@ pub put-told-spec : {M : Type 1} → statement M
 put-told-spec =
     tie.close
     (tie.spec
-    enum-told
+    (λ c. search needs)
     (λ c. search needs)
     (λ c. search needs)
     put-named-requires

@@ -62,7 +62,7 @@ returns c =
     let ps = primes es in
     let s = begin (cut ps) in
     let given = s .args in
-    displays-parts (given .factors .now) (given .pattern .now) (given .readings .now) (given .present) (given .m) (s .pre) (ps .numbers-of .ensures) (es .exponents-of .ensures) (f .numbers-of2 .ensures) (y .numbers-of3 .ensures) (r .report-rings .ensures)
+    displays-parts (given .factors .now) (given .pattern .now) (given .readings .now) (given .present) (given .m) (s .pre) (ps .numbers-of .ensures) (es .exponents-of .ensures) (f .numbers-of2 .ensures) (y .numbers-of3 .ensures) (r .display .ensures)
 
 pub report-parts-in-spec : {M : Type 1} → statement M
 report-parts-in-spec =

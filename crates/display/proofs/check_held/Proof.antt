@@ -1,4 +1,4 @@
--- `report::check_held` meets its contract: the checks of one ring, or of two where the readings are present. Assumes nothing.
+-- `display::check_held` meets its contract: the checks of one ring, or of two where the readings are present. Assumes nothing.
 use Prim.Native.Nat.{ℕ}
 use mathlib.Core.Path.{_≡_, _∙_}
 use mathlib.Core.Bool.{Bool, true, false}
@@ -8,10 +8,10 @@ use Rattle.answer.specs.declared.Check.{Check}
 use Rattle.checks.specs.Factors.{factors}
 use Rattle.checks.specs.Order.{ring-order}
 use Rattle.page.specs.Outcome.{held-order}
-use Rattle.report.specs.Inner.{decoded}
+use Rattle.display.specs.Decoded.{decoded}
 use borrow.Author.Needs.{needs}
-use Rattle.report.proofs.check_held.Statement.{statement}
-use Rattle.report.proofs.check_held.Tie as tie
+use Rattle.display.proofs.check_held.Statement.{statement}
+use Rattle.display.proofs.check_held.Tie as tie
 
 module _ (f y : List ℕ) (m : ℕ) (ps es : List ℕ) {present : Bool} {found r : Check} (e : found ≡ factors m ps es) where
   two : present ≡ true → r ≡ first (ring-order f (y ∷ []) m found []) → r ≡ first (held-order (decoded f y present m ps es))

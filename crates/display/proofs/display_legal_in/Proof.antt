@@ -1,10 +1,10 @@
--- `report::report_legal_in` meets its contract: what inverting or unmixing found is what is put (proofs/Displaying). Assumes nothing.
+-- `display::display_legal_in` meets its contract: what inverting or unmixing found is what is put (proofs/Displaying). Assumes nothing.
 use mathlib.Core.Path.{sym}
 use lib.Seq.{length-take-le}
-use Rattle.report.proofs.Displaying.{given-present, given-absent, can-invert, can-unmix, inverse-fits, displays-inverse, ghost-fits, displays-ghost, counts-fit, displays-counts}
+use Rattle.display.proofs.Displaying.{given-present, given-absent, can-invert, can-unmix, inverse-fits, displays-inverse, ghost-fits, displays-ghost, counts-fit, displays-counts}
 use borrow.Author.Needs.{needs}
-use Rattle.report.proofs.report_legal_in.Statement.{statement}
-use Rattle.report.proofs.report_legal_in.Tie as tie
+use Rattle.display.proofs.display_legal_in.Statement.{statement}
+use Rattle.display.proofs.display_legal_in.Tie as tie
 
 -- From where the room for the inverse is cut back to the start; from what was found back to where readings are present, and where they are not.
 abbrev begin : tie.After-g → tie.Start
@@ -34,9 +34,6 @@ unmix-legal-requires c κs =
     let t = c .before .before .before in
     let s = begin (t .before) in
     can-unmix (s .pre .legal) (given-present _ (t .if1 .taken)) (length-take-le _ _ (s .pre .inverse-room)) (length-take-le _ _ (s .pre .counts-room))
-
-enum-told : tie.Need-enum-told
-enum-told c = search needs
 
 put-counts-requires : tie.Need-put-counts-requires
 put-counts-requires c κs =
@@ -96,8 +93,8 @@ returns-4 c =
     let v = d .before .before .before .before in
     displays-ghost (begin (alone v .before) .pre .legal) (v .invert-legal .ensures) (d .p2 .given .1) (put .put-ghost2 .ensures)
 
-pub report-legal-in-spec : {M : Type 1} → statement M
-report-legal-in-spec =
+pub display-legal-in-spec : {M : Type 1} → statement M
+display-legal-in-spec =
     tie.close
     (tie.spec
     (λ c. search needs)
@@ -105,7 +102,7 @@ report-legal-in-spec =
     (λ c. search needs)
     slice-aggregate-c
     unmix-legal-requires
-    enum-told
+    (λ c. search needs)
     put-counts-requires
     (λ c. search needs)
     put-ghost-requires

@@ -28,14 +28,15 @@ use Rattle.page.specs.Outcome.{refused, singular, inverted, listed, ring-2, hel
 use Rattle.page.specs.Page.{refusal-line, page}
 use Rattle.page.specs.Report.{text-room}
 use Rattle.page.proofs.Rooms.{inverse-room, ghost-room, counts-room}
-use Rattle.report.specs.Inner.{ShowsHeld, Legal}
+use Rattle.display.specs.Decoded.{ShowsHeld}
+use Rattle.display.specs.Inner.{LegalSheet}
 
 -- A refusal is shown.
 pub displays-refusal : (h : Held) {r : Refusal} {found : Check} {old new : List ℕ} {end : ℕ} → found ≡ first (held-order h) → found ≡ Refused r → Puts (refusal-line r) 0 old new end → ShowsHeld h old new end
 displays-refusal h {r} e d p = record { outcome = refused r; fits = sym e ∙ d; puts = p }
 
 -- A legal sheet, with room for the text.
-pub legal-text : (h : Held) {found : Check} {text : List ℕ} → found ≡ first (held-order h) → found ≡ Passed → text-room ≤ length text → Legal h text
+pub legal-text : (h : Held) {found : Check} {text : List ℕ} → found ≡ first (held-order h) → found ≡ Passed → text-room ≤ length text → LegalSheet h text
 legal-text h e d room = let passes = sym e ∙ d in record { passes = passes; few = granted (h .pattern) (ring-2 (h .readings)) (listed h) [] passes .0 .legal .few; room = room }
 
 -- Whether a sheet has readings.
@@ -45,7 +46,7 @@ given-present y e = rw e
 pub given-absent : {present : Bool} (y : List ℕ) → present ≡ false → given present y ≡ none
 given-absent y e = rw e
 
-module _ {h : Held} {text : List ℕ} (legal : Legal h text) where
+module _ {h : Held} {text : List ℕ} (legal : LegalSheet h text) where
   abbrev n : ℕ
   n = length (h .pattern)
 
