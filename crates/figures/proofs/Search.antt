@@ -114,7 +114,7 @@ invertible-clear n q f u v r d z = ext-getD 0 v (zeros n) (r .long ∙ sym (leng
     elim (ℕ-discrete (at v i) 0) [ yes w ↦ w ∙ sym (at-zeros n i) | no w ↦ absurd (ghost-excludes n q f v i b (λ y. w (sym (mod-eq-of-lt (r .low i b)) ∙ y)) d u) ]
 
 module _ (n q : ℕ) (prime : Prime q) (some : 0 < n) (f : List ℕ) (lf : length f ≡ n) where
-  pub clear-invertible : Clear n q f n → Invertible n q f
+  clear-invertible : Clear n q f n → Invertible n q f
   clear-invertible c = pick (inverse-or-polynomial n q prime some f lf)
     where
       pick : Invertible n q f ⊎ (Singular n q f × ((w : List ℕ) × GhostPolynomial n q f w)) → Invertible n q f
