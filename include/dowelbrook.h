@@ -2,7 +2,8 @@
  * Dowelbrook: rings of n whole numbers, each from 0 to m - 1, that stand for
  * polynomials modulo x^n - 1 and m. n is 1 to 1,024 and m is 2 to 1,000,000.
  *
- * Link with target/staticlib/libcapi.a, which `rt staticlib capi` makes.
+ * Link with the library dowelbrook of the folder that tools/dist makes (lib/pkgconfig
+ * there says how), or with target/staticlib/libcapi.a, which `rt staticlib capi` makes.
  *
  * Every call ends for every content of its buffers and touches nothing else.
  * Three things it cannot see for itself, and the caller owes them:
@@ -16,6 +17,19 @@
 
 #include <stddef.h>
 #include <stdint.h>
+
+/* The version. It stands nowhere else: what else tells it reads these three lines. */
+#define DOWELBROOK_VERSION_MAJOR 0
+#define DOWELBROOK_VERSION_MINOR 2
+#define DOWELBROOK_VERSION_PATCH 0
+
+/* The three as one string, with points between them. (DOWELBROOK_VERSION is one of the numbers below.) */
+#define DOWELBROOK_VERSION_STRING \
+    DOWELBROOK_QUOTED(DOWELBROOK_VERSION_MAJOR) "." \
+    DOWELBROOK_QUOTED(DOWELBROOK_VERSION_MINOR) "." \
+    DOWELBROOK_QUOTED(DOWELBROOK_VERSION_PATCH)
+#define DOWELBROOK_QUOTED(number) DOWELBROOK_QUOTED_AS_IT_STANDS(number)
+#define DOWELBROOK_QUOTED_AS_IT_STANDS(number) #number
 
 #ifdef __cplusplus
 extern "C" {

@@ -1,5 +1,4 @@
-\\ For PARI/GP: runs the program unmix on patterns, and checks what it prints by gp's own arithmetic. Start gp in
-\\ the repository's folder, where the program has been built:
+\\ For PARI/GP: runs the program unmix on patterns, and checks what it prints by gp's own arithmetic:
 \\
 \\     $ gp tools/unmix.gp
 \\     ? unmix_check([1,2,0], 10, [1,2,5])             \\ pattern, modulus and, if wanted, readings
@@ -8,35 +7,64 @@
 \\     ? unmix_random(200)
 \\     ? unmix_save("mine.sheet", [1,2,0], 10, [1,2,5])
 \\
-\\ and `?unmix_check` tells more, as for the others. Patterns and readings are vectors of n whole numbers from
-\\ 0 to m-1, entry 0 first. Where a check fails there is an error that says what is wrong.
+\\ and `?unmix_check` tells more, as for the others. gp can be started in any folder, and read() and \r do as well.
+\\ Patterns and readings are vectors of n whole numbers from 0 to m-1, entry 0 first. Where something is wrong, with
+\\ what was given or with what the program prints, one line says what, and 0 is returned.
 \\
 \\ gp's strings hold no zero byte, so the bytes of a sheet go through the shell's printf, each as an octal escape.
 
-unmix_program = "target/bin/unmix";
+\\ ---- Faults
 
-unmix_demand(holds, said) = if(!holds, error("unmix: ", said));
+unmix_demand(holds, said) = if(!holds, error(said));
+
+unmix_one_line(said) = strjoin(strsplit(said, "\n"), " ");
+
+\\ What the work returns; but where a demand did not hold, one line says so, and it is 0.
+unmix_tried(work) =
+  iferr(work(), fault, print("unmix: ", unmix_one_line(component(fault, 1)[1])); 0, errname(fault) == "e_USER");
+
+\\ A whole number as it is, of anything else the type.
+unmix_shown(given) = if(type(given) == "t_INT", Str(given), type(given));
+
+unmix_demand_string(given, name) =
+  unmix_demand(type(given) == "t_STR", Str(name, " must be a string, not ", unmix_shown(given)));
+
+unmix_demand_whole(given, name, least, most = 2^32 - 1) =
+{
+  unmix_demand(type(given) == "t_INT" && least <= given && given <= most,
+    Str(name, " must be a whole number from ", least, " to ", most, ", not ", unmix_shown(given)));
+}
+
+unmix_demand_ring(given, name) =
+{
+  my(hint = if(type(given) == "t_POL", " (unmix_ring makes one from a polynomial)", ""));
+  unmix_demand(type(given) == "t_VEC", Str(name, " must be a row vector, not ", unmix_shown(given), hint));
+  for(i = 1, #given, unmix_demand_whole(given[i], Str("entry ", i - 1, " of ", name), 0));
+}
+
+\\ gp takes an omitted argument for 0, unless another default is named. No one gives this variable by mistake.
+unmix_are_given(readings) = !(readings === 'unmix_absent);
+
+unmix_demand_rings(f, m, readings) =
+{
+  unmix_demand_ring(f, "the pattern");
+  unmix_demand_whole(m, "the modulus", 0);
+  if(unmix_are_given(readings), unmix_demand_ring(readings, "the readings"));
+}
 
 \\ ---- Sheets
 
-unmix_ring(f, n, m) = Vecrev(liftall(f) % ('x^n - 1), n) % m;
-
-unmix_bytes(number, count) =
-{
-  unmix_demand(type(number) == "t_INT" && 0 <= number && number < 256^count,
-    Str(number, " does not fit in ", count, " bytes"));
-  vector(count, i, number \ 256^(count - i) % 256);
-}
+unmix_bytes(number, count) = vector(count, i, number \ 256^(count - i) % 256);
 
 unmix_join(parts) = concat(concat([[]], parts));
 
-unmix_field(tag, value) = unmix_join([[tag], unmix_bytes(#value, 2), value]);
-
-unmix_words(ring) =
+unmix_field(tag, value) =
 {
-  unmix_demand(type(ring) == "t_VEC", Str("not a vector: ", ring, " (unmix_ring makes one from a polynomial)"));
-  unmix_join(apply(entry -> unmix_bytes(entry, 4), ring));
+  unmix_demand(#value < 256^2, Str("a field of ", #value, " bytes is too long for a sheet"));
+  unmix_join([[tag], unmix_bytes(#value, 2), value]);
 }
+
+unmix_words(ring) = unmix_join(apply(entry -> unmix_bytes(entry, 4), ring));
 
 unmix_factors(m) =
 {
@@ -44,23 +72,65 @@ unmix_factors(m) =
   unmix_join(vector(#list~, i, concat(unmix_bytes(list[i, 1], 4), unmix_bytes(list[i, 2], 1))));
 }
 
-unmix_are_given(readings) = type(readings) != "t_INT";
-
-unmix_sheet(f, m, readings) =
+unmix_make(f, m, readings = 'unmix_absent) =
 {
+  unmix_demand_rings(f, m, readings);
   unmix_join([unmix_field(1, [1]), unmix_field(2, unmix_bytes(m, 4)), unmix_field(3, unmix_factors(m)),
     unmix_field(4, unmix_words(f)), if(unmix_are_given(readings), unmix_field(5, unmix_words(readings)), [])]);
 }
 
-unmix_printf(bytes) = Str("printf '%b' '", strjoin(apply(byte -> strprintf("\\0%03o", byte), bytes)), "'");
+\\ ---- Polynomials
 
-unmix_save(file, f, m, readings) =
+unmix_is_polynomial(given) = type(given) == "t_INT" || (type(given) == "t_POL" && variable(given) == 'x);
+
+\\ A polynomial may be given modulo a number or another polynomial; it comes with whole coefficients.
+unmix_lifted(given) =
 {
-  my(status = system(Str(unmix_printf(unmix_sheet(f, m, readings)), " > '", file, "'")));
-  unmix_demand(status == 0, Str("cannot write ", file));
+  my(f = if(setsearch(["t_INTMOD", "t_POL", "t_POLMOD"], type(given)), liftall(given), given));
+  unmix_demand(unmix_is_polynomial(f), Str("not a polynomial in x: ", unmix_shown(f)));
+  foreach(Vec(f), entry, unmix_demand(type(entry) == "t_INT", Str("not a whole coefficient: ", unmix_shown(entry))));
+  f;
 }
 
-unmix_run(f, m, readings) = externstr(Str(unmix_printf(unmix_sheet(f, m, readings)), " | ", unmix_program));
+\\ ---- Shell commands
+
+unmix_quoted(word) = Str("'", strjoin(strsplit(word, "'"), "'\\''"), "'");
+
+unmix_printf(bytes) =
+{
+  unmix_demand(#bytes <= 25000, Str("a sheet of ", #bytes, " bytes is too long for a shell command"));
+  Str("printf '%b' '", strjoin(apply(byte -> strprintf("\\0%03o", byte), bytes)), "'");
+}
+
+unmix_write(file, bytes) =
+{
+  unmix_demand_string(file, "the file's name");
+  unmix_demand(system(Str("(", unmix_printf(bytes), " > ", unmix_quoted(file), ") 2> /dev/null")) == 0,
+    Str("cannot write ", file));
+}
+
+\\ The lines that the program prints.
+unmix_ask(bytes) =
+{
+  my(lines);
+  unmix_demand_string(unmix_program, "unmix_program");
+  lines = externstr(Str("program=$(command -v ", unmix_quoted(unmix_program), ") && [ -f \"$program\" ] && ",
+    "[ -x \"$program\" ] && ", unmix_printf(bytes), " | \"$program\""));
+  unmix_demand(#lines, Str("there is no program ", unmix_program, ", or it prints nothing (unmix_program names it)"));
+  lines;
+}
+
+\\ While gp reads this file, gp has it open, and Linux tells where it is. The program is in the folder above: in
+\\ target/bin of a checkout, in bin of a distribution.
+unmix_find() =
+{
+  my(found = externstr(strjoin(["for open in /proc/$PPID/fd/*; do script=$(readlink \"$open\");",
+    "case $script in */unmix.gp) for place in target/bin bin; do program=${script%/*/*}/$place/unmix;",
+    "[ -x \"$program\" ] && echo \"$program\" && exit; done;; esac; done"], " ")));
+  if(#found, found[1], "target/bin/unmix");
+}
+
+unmix_program = unmix_find();
 
 \\ ---- What should be printed
 
@@ -69,8 +139,8 @@ unmix_refusal(f, m, readings) =
 {
   my(rings = if(unmix_are_given(readings), [f, readings], [f]), high);
   if(#unmix_factors(m) > 35, return("refused 22 at 11"));
-  if(#f > 1024, return(Str("refused 22 at ", #unmix_sheet([], m) - 3)));
-  if(#rings == 2 && #f != #readings, return(Str("refused 22 at ", #unmix_sheet(f, m))));
+  if(#f > 1024, return(Str("refused 22 at ", #unmix_make([], m) - 3)));
+  if(#rings == 2 && #f != #readings, return(Str("refused 22 at ", #unmix_make(f, m))));
   if(#f == 0, return("refused 1"));
   if(m < 2 || m > 1000000, return("refused 4"));
   for(r = 1, #rings,
@@ -99,7 +169,7 @@ unmix_ghost(f, m, p) =
   m / p * lift(Vecrev(w / pollead(w), #f));
 }
 
-\\ ---- Checks of what is printed
+\\ ---- Demands on what is printed
 
 unmix_number(word) = fromdigits(apply(code -> code - 48, Vec(Vecsmall(word))));
 
@@ -116,121 +186,172 @@ unmix_entries(line, head, n, m) =
   entries;
 }
 
-unmix_verify_inverse(line, f, m) =
+unmix_demand_inverse(line, f, m) =
 {
   my(product = unmix_mix(f, unmix_entries(line, "inverse", #f, m), m));
   unmix_demand(product == Vecrev(1, #f), Str("pattern times inverse is ", product, ": ", line));
 }
 
-unmix_verify_ghost(line, f, m, p) =
+unmix_demand_ghost(line, f, m, p) =
 {
   my(ghost = unmix_entries(line, Str("singular ", p, " ghost"), #f, m), heard = unmix_mix(f, ghost, m));
   unmix_demand(heard == vector(#f), Str("pattern times ghost is ", heard, ": ", line));
   unmix_demand(ghost == unmix_ghost(f, m, p), Str("the ghost should be ", unmix_ghost(f, m, p), ": ", line));
 }
 
-unmix_verify_counts(line, f, m, readings) =
+unmix_demand_counts(line, f, m, readings) =
 {
   my(heard = unmix_mix(f, unmix_entries(line, "counts", #f, m), m));
   unmix_demand(heard == readings, Str("pattern times counts is ", heard, ": ", line));
 }
 
-unmix_verify_first(lines, first) =
-{
-  unmix_demand(#lines, Str("nothing was printed; is unmix_program, '", unmix_program, "', right?"));
-  unmix_demand(lines[1] == first, Str("it should print '", first, "', not: ", lines[1]));
-}
+unmix_demand_first(lines, first) =
+  unmix_demand(#lines && lines[1] == first, Str("it should print '", first, "' first, not: ", strjoin(lines, ", ")));
 
-unmix_verify_number(lines, wanted) =
+unmix_demand_number(lines, wanted) =
   unmix_demand(#lines == wanted, Str("there should be ", wanted, " lines: ", strjoin(lines, ", ")));
 
-unmix_verify_answer(lines, f, m, readings) =
+unmix_demand_answer(lines, f, m, readings) =
 {
   my(p = unmix_singular(f, m), counted = !p && unmix_are_given(readings));
-  unmix_verify_first(lines, Str("ring ", #f, " modulus ", m));
-  unmix_verify_number(lines, 2 + counted);
-  if(p, unmix_verify_ghost(lines[2], f, m, p), unmix_verify_inverse(lines[2], f, m));
-  if(counted, unmix_verify_counts(lines[3], f, m, readings));
+  unmix_demand_first(lines, Str("ring ", #f, " modulus ", m));
+  unmix_demand_number(lines, 2 + counted);
+  if(p, unmix_demand_ghost(lines[2], f, m, p), unmix_demand_inverse(lines[2], f, m));
+  if(counted, unmix_demand_counts(lines[3], f, m, readings));
 }
 
-unmix_verify(lines, f, m, readings) =
+unmix_demand_lines(lines, f, m, readings = 'unmix_absent) =
 {
   my(refusal = unmix_refusal(f, m, readings));
   if(refusal == "",
-    unmix_verify_answer(lines, f, m, readings),
-    unmix_verify_first(lines, refusal);
-    unmix_verify_number(lines, 1));
-  1;
-}
-
-unmix_check(f, m, readings) =
-{
-  my(lines = unmix_run(f, m, readings));
-  foreach(lines, line, print(line));
-  unmix_verify(lines, f, m, readings);
+    unmix_demand_answer(lines, f, m, readings),
+    unmix_demand_first(lines, refusal);
+    unmix_demand_number(lines, 1));
 }
 
 \\ ---- Many at once
 
 \\ Document 01's figures that the program can show: the pattern, the modulus and the line.
-unmix_figures() =
+unmix_all_figures =
 {
-  my(figures = [
-    [[1,2,0], 4, "inverse 1 2 0"],
-    [[1,2], 8, "inverse 5 6"],
-    [[2,3], 9, "inverse 5 6"],
-    [[1,1,0], 5, "inverse 3 2 3"],
-    [[0,1,0], 6, "inverse 0 0 1"],
-    [[3], 1000, "inverse 667"],
-    [[1,1], 10, "singular 2 ghost 5 5"],
-    [[1,1,0], 6, "singular 2 ghost 3 3 3"],
-    [[1,1,1], 1000, "singular 2 ghost 500 500 0"],
-    [[3,2,0], 1000, "singular 5 ghost 200 200 200"],
-    [[0], 1000, "singular 2 ghost 500"],
-    [[1,2,0], 10, "inverse 9 2 6"]], f, m, line, lines);
-  foreach(figures, figure,
-    [f, m, line] = figure;
-    lines = unmix_run(f, m);
-    unmix_verify(lines, f, m);
-    unmix_demand(lines[2] == line, Str("document 01 has: ", line, ", not: ", lines[2])));
-  print(#figures, " figures, all right");
+  [[[1,2,0], 4, "inverse 1 2 0"],
+   [[1,2], 8, "inverse 5 6"],
+   [[2,3], 9, "inverse 5 6"],
+   [[1,1,0], 5, "inverse 3 2 3"],
+   [[0,1,0], 6, "inverse 0 0 1"],
+   [[3], 1000, "inverse 667"],
+   [[1,1], 10, "singular 2 ghost 5 5"],
+   [[1,1,0], 6, "singular 2 ghost 3 3 3"],
+   [[1,1,1], 1000, "singular 2 ghost 500 500 0"],
+   [[3,2,0], 1000, "singular 5 ghost 200 200 200"],
+   [[0], 1000, "singular 2 ghost 500"],
+   [[1,2,0], 10, "inverse 9 2 6"]]
+};
+
+unmix_demand_figure(f, m, line) =
+{
+  my(lines = unmix_ask(unmix_make(f, m)));
+  unmix_demand_lines(lines, f, m);
+  unmix_demand(lines[2] == line, Str("document 01 has: ", line, ", not: ", lines[2]));
 }
 
 \\ Any number as often as a power of a small one, for which inverses are lifted.
 unmix_random_modulus(most) =
 {
-  my(base = 2 + random(9));
+  my(base = 2 + random(min(9, most - 1)));
   if(random(2), 2 + random(most - 1), base^(1 + random(logint(most, base))));
 }
 
 unmix_random_ring(n, m) = vector(n, i, random(m));
 
-unmix_random(count, most_n = 64, most_m = 1000000) =
+\\ A random pattern is tried; whether it is singular.
+unmix_try_random(most_n, most_m) =
 {
-  my(ghosts = 0, n, m, f, readings);
-  for(i = 1, count,
-    n = 1 + random(most_n);
-    m = unmix_random_modulus(most_m);
-    f = unmix_random_ring(n, m);
-    readings = if(random(2), unmix_random_ring(n, m));
-    unmix_verify(unmix_run(f, m, readings), f, m, readings);
-    ghosts += unmix_singular(f, m) > 0);
-  print(count, " patterns, ", ghosts, " of them singular, all right");
+  my(n = 1 + random(most_n), m = unmix_random_modulus(most_m), f = unmix_random_ring(n, m));
+  my(readings = if(random(2), unmix_random_ring(n, m), 'unmix_absent));
+  unmix_demand_lines(unmix_ask(unmix_make(f, m, readings)), f, m, readings);
+  unmix_singular(f, m) > 0;
 }
 
-addhelp(unmix_program, "unmix_program: the command that reads a sheet and prints; target/bin/unmix unless set.");
-addhelp(unmix_ring, "unmix_ring(f,n,m): the vector of the n entries of the polynomial f in x, modulo x^n - 1 and m.");
+\\ ---- What is called by hand
+
+unmix_ring(f, n, m) =
+{
+  unmix_tried(() ->
+    my(g = unmix_lifted(f));
+    unmix_demand_whole(n, "the ring's length", 1, 16383);
+    unmix_demand_whole(m, "the modulus", 1);
+    Vecrev(g % ('x^n - 1), n) % m);
+}
+
+unmix_sheet(f, m, readings = 'unmix_absent) = unmix_tried(() -> unmix_make(f, m, readings));
+
+unmix_save(file, f, m, readings = 'unmix_absent) =
+  unmix_tried(() -> unmix_write(file, unmix_make(f, m, readings)); 1);
+
+unmix_run(f, m, readings = 'unmix_absent) = unmix_tried(() -> unmix_ask(unmix_make(f, m, readings)));
+
+unmix_verify(lines, f, m, readings = 'unmix_absent) =
+{
+  unmix_tried(() ->
+    unmix_demand(type(lines) == "t_VEC", Str("the lines must be a row vector, not ", unmix_shown(lines)));
+    foreach(lines, line, unmix_demand_string(line, "a line"));
+    unmix_demand_rings(f, m, readings);
+    unmix_demand_lines(lines, f, m, readings);
+    1);
+}
+
+unmix_check(f, m, readings = 'unmix_absent) =
+{
+  unmix_tried(() ->
+    my(lines = unmix_ask(unmix_make(f, m, readings)));
+    foreach(lines, line, print(line));
+    unmix_demand_lines(lines, f, m, readings);
+    1);
+}
+
+unmix_figures() =
+{
+  unmix_tried(() ->
+    foreach(unmix_all_figures, figure, call(unmix_demand_figure, figure));
+    print(#unmix_all_figures, " figures, all right");
+    1);
+}
+
+unmix_random(count, most_n = 64, most_m = 1000000) =
+{
+  unmix_tried(() ->
+    unmix_demand_whole(count, "the count", 1);
+    unmix_demand_whole(most_n, "the greatest length", 1, 1024);
+    unmix_demand_whole(most_m, "the greatest modulus", 2, 1000000);
+    my(ghosts = sum(i = 1, count, unmix_try_random(most_n, most_m)));
+    print(count, " patterns, ", ghosts, " of them singular, all right");
+    1);
+}
+
+{
+addhelp(unmix_program, Str("unmix_program: the path of the program that reads a sheet and prints; it is looked for ",
+  "beside the script, and may be set."));
+}
+{
+addhelp(unmix_ring, Str("unmix_ring(f,n,m): the vector of the n entries of the polynomial f in x, modulo x^n - 1 ",
+  "and m."));
+}
 addhelp(unmix_sheet, "unmix_sheet(f,m,{readings}): the bytes of the pattern sheet.");
-addhelp(unmix_save, "unmix_save(file,f,m,{readings}): writes the pattern sheet to a file.");
+addhelp(unmix_save, "unmix_save(file,f,m,{readings}): writes the pattern sheet to a file; 1 if it could.");
 addhelp(unmix_run, "unmix_run(f,m,{readings}): the lines that the program prints for the sheet.");
 {
 addhelp(unmix_verify, Str("unmix_verify(lines,f,m,{readings}): 1 if these lines are what the program should print; ",
-  "otherwise an error. The inverse must give a product of 1, the counts must give the readings; the prime must be the ",
-  "smallest singular one, and the ghost m/p times the monic polynomial of least degree that f does not hear."));
+  "otherwise 0, and a line says why. The inverse must give a product of 1, the counts must give the readings; the ",
+  "prime must be the smallest singular one, and the ghost m/p times the monic polynomial of least degree that f does ",
+  "not hear."));
 }
-addhelp(unmix_check, "unmix_check(f,m,{readings}): runs the program, shows what it prints and verifies it.");
-addhelp(unmix_figures, "unmix_figures(): verifies document 01's figures.");
+{
+addhelp(unmix_check, Str("unmix_check(f,m,{readings}): runs the program, shows what it prints and verifies it; 1 if ",
+  "all is right."));
+}
+addhelp(unmix_figures, "unmix_figures(): verifies document 01's figures; 1 if all are right.");
 {
 addhelp(unmix_random, Str("unmix_random(count,{most_n=64},{most_m=1000000}): verifies random patterns, half of them ",
-  "with readings."));
+  "with readings; 1 if all are right."));
 }

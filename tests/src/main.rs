@@ -117,7 +117,7 @@ fn groups() -> [Group; 4] {
 
 /// Runs everything, unless something differs.
 fn run(random: &mut Random) -> Result<Agreed, String> {
-    let mut agreed = vec![(tables::run()?, "rows of the tables of numbers")];
+    let mut agreed = vec![(tables::run()?, "rows of tables")];
     let groups = groups();
     let shares: Vec<&Share> = groups.iter().flat_map(|group| &group.shares).collect();
     let mut agreements = shares::run(&shares, random)?.into_iter();

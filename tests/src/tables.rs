@@ -1,13 +1,16 @@
-//! The table of numbers as the header, the Python module and README.md have it, and the refusals of
-//! each call as the header and README.md list them: each compared with the second implementation.
+//! The table of numbers as the header and README.md have it, and the refusals of each call as they
+//! list them: each compared with the second implementation. (The Python package's table is compared
+//! with the header by python/tests.) And the stacks that docs/ARCHITECTURE.md states, compared with
+//! those that tests/stack.c tries.
 
 use crate::calls::{self, Call};
 use crate::numbers::{Number, Told, OF_A_SHEET, ORDER};
 use std::fs;
 
 const HEADER: &str = "include/dowelbrook.h";
-const MODULE: &str = "tools/dowelbrook.py";
 const README: &str = "README.md";
+const ARCHITECTURE: &str = "docs/ARCHITECTURE.md";
+const STACKS: &str = "tests/stack.c";
 
 const WORDS: [(&str, Told); 4] =
     [("ring", Told::Ring), ("place", Told::Place), ("offset", Told::Place), ("prime", Told::Prime)];
@@ -27,12 +30,11 @@ impl From<Number> for Row {
 
 /// Hands back how many rows and lists agree.
 pub fn run() -> Result<usize, String> {
-    let (header, module, readme) = (text(HEADER)?, text(MODULE)?, text(README)?);
+    let (header, readme) = (text(HEADER)?, text(README)?);
     let refusals: Vec<Row> = ORDER.into_iter().chain(OF_A_SHEET).map(Row::from).collect();
     let done = Row { number: 0, name: "DONE".into(), tells: vec![] };
     let whole = [&[done], &refusals[..]].concat();
     let mut agree = same_rows(HEADER, rows_of_header(&header), &whole)?;
-    agree += same_rows(MODULE, rows_of_module(&module), &refusals)?;
     agree += same_rows(README, rows_of_readme(&readme), &whole)?;
     for call in &calls::ALL {
         let names: Vec<String> = call.order().map(Number::name).collect();
@@ -41,6 +43,9 @@ pub fn run() -> Result<usize, String> {
         same(README, call.name, listed_in_readme(&readme, call), numbers)?;
         agree += 2;
     }
+    let stacks = stacks_tried(&text(STACKS)?)?;
+    agree += stacks.len();
+    same(ARCHITECTURE, "the stacks", stacks_stated(&text(ARCHITECTURE)?), stacks)?;
     Ok(agree)
 }
 
@@ -104,32 +109,6 @@ fn told_by_sentence(sentence: &str) -> Vec<Told> {
     WORDS.into_iter().filter(|(word, _)| has(word)).map(|(_, told)| told).collect()
 }
 
-/// `number: "NAME",` and `number: ("what", "it", "tells"),`
-fn rows_of_module(module: &str) -> Result<Vec<Row>, String> {
-    let names = items(between(module, "\nNAMES = {\n", "\n}")?)?;
-    let mut told = items(between(module, "\nTOLD = {\n", "\n}")?)?;
-    let mut rows = vec![];
-    for (number, name) in names {
-        let place = told.iter().position(|(other, _)| *other == number);
-        let tells = place.map_or("", |place| told.remove(place).1);
-        let name = name.trim_matches('"').into();
-        rows.push(Row { number, name, tells: told_by_list(tells.trim_matches(['(', ')']))? });
-    }
-    match told[..] {
-        [] => Ok(rows),
-        [(number, _), ..] => Err(format!("{number} tells something and has no name")),
-    }
-}
-
-fn items(lines: &str) -> Result<Vec<(u32, &str)>, String> {
-    lines.lines().map(item).collect()
-}
-
-fn item(line: &str) -> Result<(u32, &str), String> {
-    let (number, value) = line.trim().split_once(": ").ok_or(line)?;
-    Ok((parsed(number)?, value.trim_end_matches(',')))
-}
-
 fn told_by_list(list: &str) -> Result<Vec<Told>, String> {
     let named = |word: &str| {
         let known = WORDS.into_iter().find(|(other, _)| *other == word);
@@ -149,15 +128,51 @@ fn rows_of_readme(readme: &str) -> Result<Vec<Row>, String> {
     below_heading(readme, "| number | given when | tells |")?.into_iter().map(row).collect()
 }
 
-/// The rows of a table of three columns.
-fn below_heading<'a>(readme: &'a str, heading: &str) -> Result<Vec<[&'a str; 3]>, String> {
-    let lines = between(readme, &format!("{heading}\n"), "\n\n")?.lines().skip(1);
+/// The rows of a table of so many columns.
+fn below_heading<'a, const COLUMNS: usize>(
+    page: &'a str,
+    heading: &str,
+) -> Result<Vec<[&'a str; COLUMNS]>, String> {
+    let lines = between(page, &format!("{heading}\n"), "\n\n")?.lines().skip(1);
     let cells = |line: &'a str| {
         let inner = line.trim().trim_start_matches('|').trim_end_matches('|');
         let cells: Vec<&str> = inner.split('|').map(str::trim).collect();
-        cells.try_into().map_err(|_| format!("not three columns: {line}"))
+        cells.try_into().map_err(|_| format!("not {COLUMNS} columns: {line}"))
     };
     lines.map(cells).collect()
+}
+
+/// Calls, in the order of their names, with a stack in KiB.
+type Stacks = Vec<(String, u32)>;
+
+/// `{"call", call, KiB},`
+fn stacks_tried(program: &str) -> Result<Stacks, String> {
+    let table = between(program, "struct call calls[] = {\n", "};")?;
+    let row = |line: &str| {
+        let cells: Vec<&str> =
+            line.split([' ', ',', '{', '}', '"']).filter(|c| !c.is_empty()).collect();
+        let [name, _, stack] = cells[..] else { return Err(format!("not a call's stack: {line}")) };
+        Ok((name.into(), parsed(stack)?))
+    };
+    sorted(table.lines().map(row).collect())
+}
+
+/// `| call, call | measured | arrays | KiB |`
+fn stacks_stated(page: &str) -> Result<Stacks, String> {
+    let mut stacks = vec![];
+    for [calls, _, _, stack] in below_heading(page, "| call | measured | arrays in it | stated |")?
+    {
+        let stack = parsed(stack)?;
+        stacks.extend(calls.split(", ").map(|call| (call.to_string(), stack)));
+    }
+    sorted(Ok(stacks))
+}
+
+fn sorted(stacks: Result<Stacks, String>) -> Result<Stacks, String> {
+    stacks.map(|mut stacks| {
+        stacks.sort();
+        stacks
+    })
 }
 
 /// By the sentence "Refuses, in this order: .." of the comment above the call.
@@ -170,7 +185,7 @@ fn listed_in_header(header: &str, call: &Call) -> Result<Vec<String>, String> {
 }
 
 fn listed_in_readme(readme: &str, call: &Call) -> Result<Vec<String>, String> {
-    let rows = below_heading(readme, "| call | what it does | refusals, in order |")?;
+    let rows = below_heading::<3>(readme, "| call | what it does | refusals, in order |")?;
     let row = rows.into_iter().find(|row| row[0] == call.name).ok_or("no row")?;
     Ok(row[2].split(',').map(|number| number.trim().into()).collect())
 }
