@@ -117,6 +117,7 @@ class Unreadable(unittest.TestCase):
         self.record("column 3 (r0): the cell is empty", "2,north,  ,2,5")
         self.record("column 1 (id): the cell is empty", ",north,1,2,5")
         self.record("column 1 (id): the cell is empty", "  ,north,1,2,5")
+        self.record("column 1 (id): the cell is empty", "\t,north,1,2,5")
         self.record("column 2 (logger): the cell is empty", "2,,1,2,5")
         self.record("column 2 (logger): the cell is missing", "2")
 
