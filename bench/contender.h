@@ -55,6 +55,10 @@ extern const struct contender parts_compare;
 /* The counts again, from the bytes of a sheet to the text that the program prints. */
 extern const struct contender dowelbrook_reports;
 
+/* A list of seven large primes, whatever m is: the tests of a prime alone, and the call that refuses the list. */
+extern const struct contender prime_tests;
+extern const struct contender dowelbrook_refuses;
+
 struct factors {
     size_t count;
     uint32_t primes[MOST_FACTORS];

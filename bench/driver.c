@@ -60,6 +60,8 @@ static const struct shape report_shapes[] = {
     {16, 1000000}, {128, 1000000}, {1024, 1000000}, {0, 0},
 };
 
+static const struct shape refused_shapes[] = {{1, 1000000}, {0, 0}};
+
 static const struct job jobs[] = {
     {"mix",
      {&dowelbrook_mixes, &plain_mixes,
@@ -100,6 +102,7 @@ static const struct job jobs[] = {
     {"unmix", {&dowelbrook_unmixes, &parts_unmix}, parts_shapes, has_whole_inverse},
     {"same feeding", {&dowelbrook_compares, &parts_compare}, parts_shapes, has_whole_inverse},
     {"report", {&parts_unmix, &dowelbrook_reports}, report_shapes, has_whole_inverse},
+    {"refuse seven large primes", {&prime_tests, &dowelbrook_refuses}, refused_shapes, NULL},
 };
 
 static void draw(uint32_t *ring, size_t n, uint32_t m) {

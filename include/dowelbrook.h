@@ -20,7 +20,7 @@
 
 /* The version. It stands nowhere else: what else tells it reads these three lines. */
 #define DOWELBROOK_VERSION_MAJOR 0
-#define DOWELBROOK_VERSION_MINOR 2
+#define DOWELBROOK_VERSION_MINOR 3
 #define DOWELBROOK_VERSION_PATCH 0
 
 /* The three as one string, with points between them. (DOWELBROOK_VERSION is one of the numbers below.) */
@@ -42,13 +42,17 @@ enum {
     DOWELBROOK_LARGE = 2,       /* ring 1 has more than 1,024 entries */
     DOWELBROOK_MISMATCH = 3,    /* another ring's length is not n; tells the lowest such ring */
     DOWELBROOK_MODULUS = 4,     /* m is below 2 or above 1,000,000 */
-    DOWELBROOK_FACTORS = 5,     /* the lists are not the factor list of m */
+    DOWELBROOK_FACTORS = 5,     /* primes and exponents are not equally many, or there are none, or more than 7 */
     DOWELBROOK_COEFFICIENT = 6, /* an entry is m or more; tells the lowest such ring, and its first such place */
     DOWELBROOK_ROOM = 7,        /* the output's length is not n */
     DOWELBROOK_DIVISOR = 8,     /* reduce: divisor is below 2 or does not divide m;
                                    fold: the output's length is 0 or does not divide n */
     DOWELBROOK_SINGULAR = 9,    /* a pattern has no inverse modulo m; tells the lowest such ring, and the
                                    smallest prime of m that is singular for it */
+    DOWELBROOK_EXPONENT = 10,   /* an exponent is 0; tells the place of its entry */
+    DOWELBROOK_PRIME = 11,      /* a number in the list of primes is not a prime; tells the place of its entry */
+    DOWELBROOK_ORDER = 12,      /* a prime is not above the one before; tells the place of its entry */
+    DOWELBROOK_PRODUCT = 13,    /* the powers do not multiply to m */
 
     /* Of a sheet; each tells an offset: of the field's first byte, or the sheet's length for a tag
        that is missing at its end. */
@@ -116,6 +120,10 @@ dowelbrook_reply dowelbrook_fold(const uint32_t *a, size_t a_len,
 /*
  * The calls below take the factor list of m: its primes, strictly rising, and
  * beside them as many exponents, each at least 1, whose powers multiply to m.
+ * An m in range has one such list, of 1 to 7 entries, and every other list is
+ * refused: with FACTORS by its size, before any entry is looked at; then entry
+ * by entry from the first, with EXPONENT, PRIME or ORDER at the first entry
+ * that is bad; then with PRODUCT.
  *
  * A prime p of m is singular for a pattern f when f and x^n - 1 share a factor
  * of degree 1 or more modulo p. f has an inverse exactly when no p is.
@@ -126,8 +134,8 @@ dowelbrook_reply dowelbrook_fold(const uint32_t *a, size_t a_len,
  * 1, 0, .., 0. With SINGULAR all its n entries become the ghost instead: m / p
  * times the monic w of least degree whose mix with f is zero modulo p, where p
  * is the prime told. The ghost is not all zero, and its mix with f is.
- * Refuses, in this order: EMPTY, LARGE, MODULUS, FACTORS, COEFFICIENT, ROOM,
- * SINGULAR.
+ * Refuses, in this order: EMPTY, LARGE, MODULUS, FACTORS, EXPONENT, PRIME,
+ * ORDER, PRODUCT, COEFFICIENT, ROOM, SINGULAR.
  */
 dowelbrook_reply dowelbrook_invert(const uint32_t *f, size_t f_len,
                                    uint32_t m,
@@ -138,8 +146,8 @@ dowelbrook_reply dowelbrook_invert(const uint32_t *f, size_t f_len,
 /*
  * Unmixes readings y (2) heard through pattern f (1): the output becomes the
  * counts, the one ring whose mix with f is y.
- * Refuses, in this order: EMPTY, LARGE, MISMATCH, MODULUS, FACTORS,
- * COEFFICIENT, ROOM, SINGULAR.
+ * Refuses, in this order: EMPTY, LARGE, MISMATCH, MODULUS, FACTORS, EXPONENT,
+ * PRIME, ORDER, PRODUCT, COEFFICIENT, ROOM, SINGULAR.
  */
 dowelbrook_reply dowelbrook_unmix(const uint32_t *f, size_t f_len,
                                   const uint32_t *y, size_t y_len,
@@ -151,8 +159,8 @@ dowelbrook_reply dowelbrook_unmix(const uint32_t *f, size_t f_len,
 /*
  * Whether the counts behind readings y1 (2) through pattern f1 (1) and behind
  * readings y2 (4) through pattern f2 (3) are equal, entry by entry.
- * Refuses, in this order: EMPTY, LARGE, MISMATCH, MODULUS, FACTORS,
- * COEFFICIENT, SINGULAR.
+ * Refuses, in this order: EMPTY, LARGE, MISMATCH, MODULUS, FACTORS, EXPONENT,
+ * PRIME, ORDER, PRODUCT, COEFFICIENT, SINGULAR.
  */
 dowelbrook_verdict dowelbrook_same_feeding(const uint32_t *f1, size_t f1_len,
                                            const uint32_t *y1, size_t y1_len,

@@ -12,6 +12,8 @@
 #include <stddef.h>
 #include <stdint.h>
 
+#include "../include/dowelbrook.h"
+
 #ifdef __cplusplus
 extern "C" {
 #endif
@@ -21,10 +23,13 @@ enum { PROBE_INVERSE = 0, PROBE_SHARES = 1, PROBE_REFUSED = 2 };
 /* Whether p is a prime. */
 bool probe_is_prime(uint32_t p);
 
-/* Whether the two lists are not the factor list of m. */
-bool probe_factor_fault(const uint32_t *primes, size_t primes_len,
-                        const uint8_t *exponents, size_t exponents_len,
-                        uint32_t m);
+/*
+ * The check of the factor list by itself, for any m: FACTORS, EXPONENT, PRIME,
+ * ORDER or PRODUCT as in a call, or DONE where the list passes.
+ */
+dowelbrook_reply probe_factors(const uint32_t *primes, size_t primes_len,
+                               const uint8_t *exponents, size_t exponents_len,
+                               uint32_t m);
 
 typedef struct {
     uint32_t kind;

@@ -159,6 +159,10 @@ static void no_entry(struct inputs *in) { in->n = in->y_len = 0; }
 static void many_entries(struct inputs *in) { in->n = in->y_len = MOST_ENTRIES + 1; }
 static void short_readings(struct inputs *in) { in->y_len--; }
 static void high_modulus(struct inputs *in) { in->m = 1000001; }
+static void no_factor(struct inputs *in) { in->factors = 0; }
+static void zero_exponent(struct inputs *in) { in->exponents[in->factors - 1] = 0; }
+static void no_prime(struct inputs *in) { in->primes[in->factors - 1] = 999999; }
+static void falling_primes(struct inputs *in) { in->primes[in->factors - 1] = in->primes[0]; }
 static void missing_factor(struct inputs *in) { in->factors--; }
 static void high_entry(struct inputs *in) { in->f[in->n - 1] = in->m; }
 static void high_last_entry(struct inputs *in) { in->y[in->y_len - 1] = in->m; }
@@ -167,8 +171,8 @@ static void no_divisor(struct inputs *in) { in->divisor = in->m + 1; }
 static void nothing_folded(struct inputs *in) { in->folded_len = 0; }
 
 static void (*const ring_faults[])(struct inputs *) = {
-    no_entry,   many_entries,    short_readings, high_modulus, missing_factor,
-    high_entry, high_last_entry, short_output,   no_divisor,   nothing_folded,
+    no_entry,       many_entries,   short_readings, high_modulus,    no_factor,    zero_exponent, no_prime,
+    falling_primes, missing_factor, high_entry,     high_last_entry, short_output, no_divisor,    nothing_folded,
 };
 
 static void no_readings(struct inputs *in) { in->sheet_len -= 3 + 4 * in->y_len; }
@@ -208,10 +212,10 @@ static void add_all(void) {
 
 /* ---- Calls */
 
-/* The numbers that were answered, a bit each. All of them are 0 to 9 and 20 to 24. */
+/* The numbers that were answered, a bit each. All of them are 0 to 13 and 20 to 24. */
 static uint32_t answered;
 
-#define EVERY_NUMBER 0x1f003ff
+#define EVERY_NUMBER 0x1f03fff
 
 static void note(uint32_t number) { answered |= (uint32_t)1 << number; }
 

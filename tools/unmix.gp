@@ -3,13 +3,16 @@
 \\     $ gp tools/unmix.gp
 \\     ? unmix_check([1,2,0], 10, [1,2,5])             \\ pattern, modulus and, if wanted, readings
 \\     ? unmix_check(unmix_ring(x^7 + 3, 5, 8), 8)     \\ a polynomial, on a ring of 5
+\\     ? unmix_check([1,2,0], 18, , [2,1;9,1])         \\ another factor list than gp's: 9 is not a prime
 \\     ? unmix_figures()
 \\     ? unmix_random(200)
+\\     ? unmix_random_lists(200)
 \\     ? unmix_save("mine.sheet", [1,2,0], 10, [1,2,5])
 \\
 \\ and `?unmix_check` tells more, as for the others. gp can be started in any folder, and read() and \r do as well.
-\\ Patterns and readings are vectors of n whole numbers from 0 to m-1, entry 0 first. Where something is wrong, with
-\\ what was given or with what the program prints, one line says what, and 0 is returned.
+\\ Patterns and readings are vectors of n whole numbers from 0 to m-1, entry 0 first; factor lists are matrices as
+\\ factor() gives them. Where something is wrong, with what was given or with what the program prints, one line says
+\\ what, and 0 is returned.
 \\
 \\ gp's strings hold no zero byte, so the bytes of a sheet go through the shell's printf, each as an octal escape.
 
@@ -42,14 +45,27 @@ unmix_demand_ring(given, name) =
   for(i = 1, #given, unmix_demand_whole(given[i], Str("entry ", i - 1, " of ", name), 0));
 }
 
-\\ gp takes an omitted argument for 0, unless another default is named. No one gives this variable by mistake.
-unmix_are_given(readings) = !(readings === 'unmix_absent);
+\\ An empty matrix may be typed as [;], which has no columns.
+unmix_demand_list(given) =
+{
+  my(shown = if(type(given) == "t_MAT", Str("one of ", #given), unmix_shown(given)));
+  my(hint = if(type(given) == "t_VEC", " (Mat makes one from a row)", ""));
+  unmix_demand(type(given) == "t_MAT" && (#given == 0 || #given == 2),
+    Str("the factor list must be a matrix of two columns, primes and exponents, not ", shown, hint));
+  for(i = 1, #given~,
+    unmix_demand_whole(given[i, 1], Str("the prime of entry ", i - 1), 0);
+    unmix_demand_whole(given[i, 2], Str("the exponent of entry ", i - 1), 0, 255));
+}
 
-unmix_demand_rings(f, m, readings) =
+\\ gp takes an omitted argument for 0, unless another default is named. No one gives this variable by mistake.
+unmix_is_given(argument) = !(argument === 'unmix_absent);
+
+unmix_demand_kinds(f, m, readings, list) =
 {
   unmix_demand_ring(f, "the pattern");
   unmix_demand_whole(m, "the modulus", 0);
-  if(unmix_are_given(readings), unmix_demand_ring(readings, "the readings"));
+  if(unmix_is_given(readings), unmix_demand_ring(readings, "the readings"));
+  if(unmix_is_given(list), unmix_demand_list(list));
 }
 
 \\ ---- Sheets
@@ -66,17 +82,17 @@ unmix_field(tag, value) =
 
 unmix_words(ring) = unmix_join(apply(entry -> unmix_bytes(entry, 4), ring));
 
-unmix_factors(m) =
-{
-  my(list = factor(m));
-  unmix_join(vector(#list~, i, concat(unmix_bytes(list[i, 1], 4), unmix_bytes(list[i, 2], 1))));
-}
+unmix_factors(list) = unmix_join(vector(#list~, i, concat(unmix_bytes(list[i, 1], 4), unmix_bytes(list[i, 2], 1))));
 
-unmix_make(f, m, readings = 'unmix_absent) =
+\\ The factor list that is given, else gp's.
+unmix_list(m, list) = if(unmix_is_given(list), list, factor(m));
+
+unmix_make(f, m, readings = 'unmix_absent, list = 'unmix_absent) =
 {
-  unmix_demand_rings(f, m, readings);
-  unmix_join([unmix_field(1, [1]), unmix_field(2, unmix_bytes(m, 4)), unmix_field(3, unmix_factors(m)),
-    unmix_field(4, unmix_words(f)), if(unmix_are_given(readings), unmix_field(5, unmix_words(readings)), [])]);
+  unmix_demand_kinds(f, m, readings, list);
+  unmix_join([unmix_field(1, [1]), unmix_field(2, unmix_bytes(m, 4)),
+    unmix_field(3, unmix_factors(unmix_list(m, list))), unmix_field(4, unmix_words(f)),
+    if(unmix_is_given(readings), unmix_field(5, unmix_words(readings)), [])]);
 }
 
 \\ ---- Polynomials
@@ -134,19 +150,51 @@ unmix_program = unmix_find();
 
 \\ ---- What should be printed
 
-\\ The refusal of rings or a modulus that the program does not take; "" if there is none.
-unmix_refusal(f, m, readings) =
+\\ The refusal of a sheet that does not read; "" if there is none, as in what follows.
+unmix_sheet_refusal(f, m, readings, list) =
 {
-  my(rings = if(unmix_are_given(readings), [f, readings], [f]), high);
-  if(#unmix_factors(m) > 35, return("refused 22 at 11"));
-  if(#f > 1024, return(Str("refused 22 at ", #unmix_make([], m) - 3)));
-  if(#rings == 2 && #f != #readings, return(Str("refused 22 at ", #unmix_make(f, m))));
-  if(#f == 0, return("refused 1"));
-  if(m < 2 || m > 1000000, return("refused 4"));
+  if(#list~ > 7, return("refused 22 at 11"));
+  if(#f > 1024, return(Str("refused 22 at ", #unmix_make([], m, , list) - 3)));
+  if(unmix_is_given(readings) && #f != #readings, return(Str("refused 22 at ", #unmix_make(f, m, , list))));
+  "";
+}
+
+\\ Of one entry of a factor list, after those before it.
+unmix_entry_refusal(list, i) =
+{
+  if(list[i, 2] == 0, return(Str("refused 10 at ", i - 1)));
+  if(!isprime(list[i, 1]), return(Str("refused 11 at ", i - 1)));
+  if(i > 1 && list[i, 1] <= list[i - 1, 1], return(Str("refused 12 at ", i - 1)));
+  "";
+}
+
+\\ Of a list of up to seven entries.
+unmix_list_refusal(list, m) =
+{
+  my(refusal);
+  if(#list~ == 0, return("refused 5"));
+  for(i = 1, #list~, refusal = unmix_entry_refusal(list, i); if(refusal != "", return(refusal)));
+  if(factorback(list) == m, "", "refused 13");
+}
+
+\\ Of entries that are not below m.
+unmix_entries_refusal(rings, m) =
+{
+  my(high);
   for(r = 1, #rings,
     high = select(entry -> entry >= m, rings[r], 1);
     if(#high, return(Str("refused 6 ring ", r, " at ", high[1] - 1))));
   "";
+}
+
+unmix_refusal(f, m, readings, list) =
+{
+  my(rings = if(unmix_is_given(readings), [f, readings], [f]), refusal = unmix_sheet_refusal(f, m, readings, list));
+  if(refusal != "", return(refusal));
+  if(#f == 0, return("refused 1"));
+  if(m < 2 || m > 1000000, return("refused 4"));
+  refusal = unmix_list_refusal(list, m);
+  if(refusal != "", refusal, unmix_entries_refusal(rings, m));
 }
 
 unmix_mix(a, b, m) = Vecrev(Polrev(a) * Polrev(b) % ('x^#a - 1), #a) % m;
@@ -213,16 +261,16 @@ unmix_demand_number(lines, wanted) =
 
 unmix_demand_answer(lines, f, m, readings) =
 {
-  my(p = unmix_singular(f, m), counted = !p && unmix_are_given(readings));
+  my(p = unmix_singular(f, m), counted = !p && unmix_is_given(readings));
   unmix_demand_first(lines, Str("ring ", #f, " modulus ", m));
   unmix_demand_number(lines, 2 + counted);
   if(p, unmix_demand_ghost(lines[2], f, m, p), unmix_demand_inverse(lines[2], f, m));
   if(counted, unmix_demand_counts(lines[3], f, m, readings));
 }
 
-unmix_demand_lines(lines, f, m, readings = 'unmix_absent) =
+unmix_demand_lines(lines, f, m, readings = 'unmix_absent, list = 'unmix_absent) =
 {
-  my(refusal = unmix_refusal(f, m, readings));
+  my(refusal = unmix_refusal(f, m, readings, unmix_list(m, list)));
   if(refusal == "",
     unmix_demand_answer(lines, f, m, readings),
     unmix_demand_first(lines, refusal);
@@ -273,6 +321,36 @@ unmix_try_random(most_n, most_m) =
   unmix_singular(f, m) > 0;
 }
 
+\\ A factor list as a vector of pairs, of which one is changed in a way that a typing person might: its exponent or its
+\\ number is another, it stands elsewhere, is left out or stands there twice.
+unmix_mistyped(pairs) =
+{
+  my(i = 1 + random(#pairs), j = 1 + random(#pairs), way = random(6), changed = pairs);
+  if(way == 0, changed[i][2] = 0);
+  if(way == 1, changed[i][2] += random(4));
+  if(way == 2, changed[i][1] = if(random(2), random(12), pairs[i][1] * prime(1 + random(3))));
+  if(way == 3, changed[i] = pairs[j]; changed[j] = pairs[i]);
+  if(way == 4, changed = concat(pairs[1 .. i - 1], pairs[i + 1 .. #pairs]));
+  if(way == 5, changed = concat([pairs[1 .. i], [pairs[j]], pairs[i + 1 .. #pairs]]));
+  changed;
+}
+
+\\ The factor list of m after up to three mistakes.
+unmix_random_list(m) =
+{
+  my(right = factor(m), pairs = vector(#right~, i, right[i, ]));
+  for(mistake = 1, random(4), if(#pairs, pairs = unmix_mistyped(pairs)));
+  matrix(#pairs, 2, i, column, pairs[i][column]);
+}
+
+\\ A random factor list is tried; whether it is refused.
+unmix_try_random_list(most_m) =
+{
+  my(m = unmix_random_modulus(most_m), list = unmix_random_list(m), f = unmix_random_ring(1 + random(8), m + 1));
+  unmix_demand_lines(unmix_ask(unmix_make(f, m, , list)), f, m, , list);
+  unmix_refusal(f, m, 'unmix_absent, list) != "";
+}
+
 \\ ---- What is called by hand
 
 unmix_ring(f, n, m) =
@@ -284,29 +362,31 @@ unmix_ring(f, n, m) =
     Vecrev(g % ('x^n - 1), n) % m);
 }
 
-unmix_sheet(f, m, readings = 'unmix_absent) = unmix_tried(() -> unmix_make(f, m, readings));
+unmix_sheet(f, m, readings = 'unmix_absent, list = 'unmix_absent) =
+  unmix_tried(() -> unmix_make(f, m, readings, list));
 
-unmix_save(file, f, m, readings = 'unmix_absent) =
-  unmix_tried(() -> unmix_write(file, unmix_make(f, m, readings)); 1);
+unmix_save(file, f, m, readings = 'unmix_absent, list = 'unmix_absent) =
+  unmix_tried(() -> unmix_write(file, unmix_make(f, m, readings, list)); 1);
 
-unmix_run(f, m, readings = 'unmix_absent) = unmix_tried(() -> unmix_ask(unmix_make(f, m, readings)));
+unmix_run(f, m, readings = 'unmix_absent, list = 'unmix_absent) =
+  unmix_tried(() -> unmix_ask(unmix_make(f, m, readings, list)));
 
-unmix_verify(lines, f, m, readings = 'unmix_absent) =
+unmix_verify(lines, f, m, readings = 'unmix_absent, list = 'unmix_absent) =
 {
   unmix_tried(() ->
     unmix_demand(type(lines) == "t_VEC", Str("the lines must be a row vector, not ", unmix_shown(lines)));
     foreach(lines, line, unmix_demand_string(line, "a line"));
-    unmix_demand_rings(f, m, readings);
-    unmix_demand_lines(lines, f, m, readings);
+    unmix_demand_kinds(f, m, readings, list);
+    unmix_demand_lines(lines, f, m, readings, list);
     1);
 }
 
-unmix_check(f, m, readings = 'unmix_absent) =
+unmix_check(f, m, readings = 'unmix_absent, list = 'unmix_absent) =
 {
   unmix_tried(() ->
-    my(lines = unmix_ask(unmix_make(f, m, readings)));
+    my(lines = unmix_ask(unmix_make(f, m, readings, list)));
     foreach(lines, line, print(line));
-    unmix_demand_lines(lines, f, m, readings);
+    unmix_demand_lines(lines, f, m, readings, list);
     1);
 }
 
@@ -329,6 +409,16 @@ unmix_random(count, most_n = 64, most_m = 1000000) =
     1);
 }
 
+unmix_random_lists(count, most_m = 1000000) =
+{
+  unmix_tried(() ->
+    unmix_demand_whole(count, "the count", 1);
+    unmix_demand_whole(most_m, "the greatest modulus", 2, 1000000);
+    my(refused = sum(i = 1, count, unmix_try_random_list(most_m)));
+    print(count, " factor lists, ", refused, " of them refused, all right");
+    1);
+}
+
 {
 addhelp(unmix_program, Str("unmix_program: the path of the program that reads a sheet and prints; it is looked for ",
   "beside the script, and may be set."));
@@ -337,21 +427,28 @@ addhelp(unmix_program, Str("unmix_program: the path of the program that reads a 
 addhelp(unmix_ring, Str("unmix_ring(f,n,m): the vector of the n entries of the polynomial f in x, modulo x^n - 1 ",
   "and m."));
 }
-addhelp(unmix_sheet, "unmix_sheet(f,m,{readings}): the bytes of the pattern sheet.");
-addhelp(unmix_save, "unmix_save(file,f,m,{readings}): writes the pattern sheet to a file; 1 if it could.");
-addhelp(unmix_run, "unmix_run(f,m,{readings}): the lines that the program prints for the sheet.");
 {
-addhelp(unmix_verify, Str("unmix_verify(lines,f,m,{readings}): 1 if these lines are what the program should print; ",
-  "otherwise 0, and a line says why. The inverse must give a product of 1, the counts must give the readings; the ",
-  "prime must be the smallest singular one, and the ghost m/p times the monic polynomial of least degree that f does ",
-  "not hear."));
+addhelp(unmix_sheet, Str("unmix_sheet(f,m,{readings},{list}): the bytes of the pattern sheet. The factor list is ",
+  "factor(m) unless another is given."));
+}
+addhelp(unmix_save, "unmix_save(file,f,m,{readings},{list}): writes the pattern sheet to a file; 1 if it could.");
+addhelp(unmix_run, "unmix_run(f,m,{readings},{list}): the lines that the program prints for the sheet.");
+{
+addhelp(unmix_verify, Str("unmix_verify(lines,f,m,{readings},{list}): 1 if these lines are what the program should ",
+  "print; otherwise 0, and a line says why. The inverse must give a product of 1, the counts must give the readings; ",
+  "the prime must be the smallest singular one, and the ghost m/p times the monic polynomial of least degree that f ",
+  "does not hear; of a wrong factor list, the first entry that is bad must be told."));
 }
 {
-addhelp(unmix_check, Str("unmix_check(f,m,{readings}): runs the program, shows what it prints and verifies it; 1 if ",
-  "all is right."));
+addhelp(unmix_check, Str("unmix_check(f,m,{readings},{list}): runs the program, shows what it prints and verifies it; ",
+  "1 if all is right."));
 }
 addhelp(unmix_figures, "unmix_figures(): verifies document 01's figures; 1 if all are right.");
 {
 addhelp(unmix_random, Str("unmix_random(count,{most_n=64},{most_m=1000000}): verifies random patterns, half of them ",
   "with readings; 1 if all are right."));
+}
+{
+addhelp(unmix_random_lists, Str("unmix_random_lists(count,{most_m=1000000}): verifies what is printed for random ",
+  "factor lists, most of them wrong; 1 if all are right."));
 }

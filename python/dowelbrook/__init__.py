@@ -19,6 +19,14 @@ What a call refuses is raised, in words and with its numbers:
 refused 6: entry 1 of ring b is 10, not below the modulus 10
 6 COEFFICIENT 2 1
 
+>>> try:
+...     invert([1, 2, 0], 18, factors=[(2, 1), (9, 1)])
+... except Refusal as refusal:
+...     print(refusal)
+...     print(refusal.number, refusal.name, refusal.place)
+refused 11: entry 1 of the factor list 2^1 9^1: 9 is not a prime
+11 PRIME 1
+
 What is no ring never gets that far:
 
 >>> mix([1, 2, 0], [1, -1, 5], 10)

@@ -179,6 +179,12 @@ def unmix(f: Ring, y: R, m: int, factors: Factors | None = None) -> R:
 
     >>> unmix([1, 2, 0], [1, 2, 5], 10, factors=[(2, 1), (5, 1)])
     [1, 0, 5]
+
+    Of a list that is given, the first entry that is bad is told, counted from 0:
+
+    >>> unmix([1, 2, 0], [1, 2, 5], 18, factors=[(2, 1), (9, 1)])
+    Traceback (most recent call last):
+    dowelbrook.Refusal: refused 11: entry 1 of the factor list 2^1 9^1: 9 is not a prime
     """
     modulus = word(m, "the modulus")
     listed = FactorList(modulus, factors)

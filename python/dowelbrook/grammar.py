@@ -132,4 +132,12 @@ def _length_fault(field: Field, kind: Kind, come: Come) -> str | None:
         if field.length == pattern:
             return None
         return f"the readings have {field.length} bytes, the pattern has {pattern}, and an entry has {kind.item_size}"
-    return None if field.length in kind.lengths else f"the {kind.name} field cannot have {field.length} bytes"
+    if field.length in kind.lengths:
+        return None
+    return f"the {kind.name} field cannot have {field.length} bytes: {_length_rule(kind)}"
+
+
+def _length_rule(kind: Kind) -> str:
+    if kind.has_one_item:
+        return f"it has {kind.item_size}"
+    return f"an entry has {kind.item_size}, and there are at most {kind.lengths[-1] // kind.item_size:,}"

@@ -14,6 +14,7 @@ MOST_FACTORS = 7
 
 DONE = 0
 EMPTY, LARGE, MISMATCH, MODULUS, FACTORS, COEFFICIENT, ROOM, DIVISOR, SINGULAR = range(1, 10)
+EXPONENT, PRIME, ORDER, PRODUCT = range(10, 14)
 CUT, TAG, LENGTH, MISSING, VERSION = range(20, 25)
 
 
@@ -67,8 +68,9 @@ TABLE = (
         FACTORS,
         "FACTORS",
         (),
-        "the lists aren't the factor list of the modulus",
-        "Leave the factors out, or take what `dowelbrook factor` prints: primes in rising order with their exponents.",
+        f"the factor list has no entry, or more than {MOST_FACTORS}, or not as many primes as exponents",
+        "Leave the factors out, or take what `dowelbrook factor` prints: primes in rising order with their exponents. "
+        "Only callers from C see this for lists of unequal length.",
     ),
     Number(
         COEFFICIENT,
@@ -99,6 +101,38 @@ TABLE = (
         "a pattern has no inverse modulo m: modulo the prime told it shares a factor with x^n - 1",
         "No counts can be told from this logger's readings alone: its ghost can be added to any counts unheard. "
         "Use the other logger of the tank, or another pattern.",
+    ),
+    Number(
+        EXPONENT,
+        "EXPONENT",
+        ("place",),
+        "an exponent in the factor list is 0",
+        "Leave out a prime that does not divide the modulus, and give exponent 1 to one that divides it once; "
+        "`dowelbrook factor` prints the list that is right.",
+    ),
+    Number(
+        PRIME,
+        "PRIME",
+        ("place",),
+        "a number in the factor list is not a prime",
+        "Look at the entry told, and write it by its primes, as 3^2 for 9; 0 and 1 are not primes. `dowelbrook factor` "
+        "prints the list that is right.",
+    ),
+    Number(
+        ORDER,
+        "ORDER",
+        ("place",),
+        "a prime in the factor list is not above the one before",
+        "Put the primes in rising order, each once, as 2^2 for 2^1 2^1; `dowelbrook factor` prints the list that is "
+        "right.",
+    ),
+    Number(
+        PRODUCT,
+        "PRODUCT",
+        (),
+        "the powers in the factor list do not multiply to the modulus",
+        "Look for a prime that is missing or does not belong there, for a wrong exponent, or for the modulus of "
+        "another logger; `dowelbrook factor` prints the list that is right.",
     ),
     Number(
         CUT,

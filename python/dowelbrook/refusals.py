@@ -2,17 +2,19 @@
 
 from __future__ import annotations
 
+import math
 from typing import Callable, Dict, NamedTuple, Optional, Sequence, Tuple
 
 from . import numbers
-from .numbers import LEAST_MODULUS, MOST_ENTRIES, MOST_MODULUS, NUMBERS
+from .numbers import LEAST_MODULUS, MOST_ENTRIES, MOST_FACTORS, MOST_MODULUS, NUMBERS
 
 
 class Refusal(Exception):
     """Why a call was refused. Its text is in words; its fields are the numbers.
 
     number and name are the table's; ring (from 1), place (from 0) and prime are told by some numbers, and None by
-    the others. The place that a sheet's refusal tells is an offset in bytes.
+    the others. A place is that of an entry of the ring; EXPONENT, PRIME and ORDER tell that of an entry of the factor
+    list, and a sheet's refusal an offset in bytes.
     """
 
     __module__ = "dowelbrook"
@@ -124,8 +126,42 @@ def _modulus_words(asked: Asked, _: Told) -> str:
 
 
 def _factors_words(asked: Asked, _: Told) -> str:
-    given = factors_text(asked.factors) or "the empty list"
-    return f"{given} is not the factor list of {asked.m}"
+    if not asked.factors:
+        return "the factor list is empty"
+    return f"the factor list has {len(asked.factors):,} entries, more than {MOST_FACTORS}"
+
+
+def _entry(asked: Asked, told: Told) -> str:
+    """The list is shown, so that it is plain which entry is meant: the first is entry 0."""
+    return f"entry {told.place} of the factor list {factors_text(asked.factors)}"
+
+
+def _number_at(asked: Asked, place: int) -> int:
+    number, _ = asked.factors[place]
+    return number
+
+
+def _exponent_words(asked: Asked, told: Told) -> str:
+    return f"{_entry(asked, told)}: the exponent of {_number_at(asked, told.place)} is 0"
+
+
+def _prime_words(asked: Asked, told: Told) -> str:
+    return f"{_entry(asked, told)}: {_number_at(asked, told.place)} is not a prime"
+
+
+def _order_words(asked: Asked, told: Told) -> str:
+    number, before = _number_at(asked, told.place), _number_at(asked, told.place - 1)
+    return f"{_entry(asked, told)}: {number} is not above {before}, the prime before"
+
+
+# From here on a product is not written out: it may have thousands of digits.
+LONG_PRODUCT = 10**20
+
+
+def _product_words(asked: Asked, _: Told) -> str:
+    product = math.prod(prime**exponent for prime, exponent in asked.factors)
+    made = f"{product}, not to" if product < LONG_PRODUCT else "far more than"
+    return f"the factor list {factors_text(asked.factors)} multiplies to {made} the modulus {asked.m}"
 
 
 def _coefficient_words(asked: Asked, told: Told) -> str:
@@ -145,7 +181,8 @@ def _singular_words(asked: Asked, told: Told) -> str:
     return f"{has} no inverse modulo {asked.m}: it shares a factor with x^{n} - 1 modulo the prime {told.prime}"
 
 
-# What is said of each number. Python and the command make every output, so that ROOM is never answered.
+# What is said of each number. Python and the command make every output, so that ROOM is never answered, and give each
+# prime with its exponent, so that FACTORS never is for lists of unequal length.
 _WORDS: Dict[int, Callable[[Asked, Told], str]] = {
     numbers.EMPTY: _empty_words,
     numbers.LARGE: _large_words,
@@ -155,6 +192,10 @@ _WORDS: Dict[int, Callable[[Asked, Told], str]] = {
     numbers.COEFFICIENT: _coefficient_words,
     numbers.DIVISOR: _divisor_words,
     numbers.SINGULAR: _singular_words,
+    numbers.EXPONENT: _exponent_words,
+    numbers.PRIME: _prime_words,
+    numbers.ORDER: _order_words,
+    numbers.PRODUCT: _product_words,
 }
 
 

@@ -51,6 +51,12 @@ def report(sheet: bytes) -> str:
 
     >>> print(report(b""), end="")
     refused 23 at 0
+
+    What stands after "at" is an offset in bytes for 20 to 24. For 10 to 12 it is the entry's place in the factor list:
+
+    >>> nine_is_no_prime = bytes.fromhex("01000101 02000400000012 03000A00000002010000000901 04000400000001")
+    >>> print(report(nine_is_no_prime), end="")
+    refused 11 at 1
     """
     text = (c_uint8 * TEXT_ROOM)()
     length = function("report")(*_pointed_bytes(_demand_bytes(sheet)), text, TEXT_ROOM)

@@ -35,8 +35,8 @@ def factor_of(text: str) -> tuple[int, int]:
     prime, caret, exponent = text.partition("^")
     try:
         return number_of(prime, MOST_WORD), number_of(exponent if caret else "1", MOST_BYTE)
-    except InputError:
-        raise InputError(f"{text!r} is not a prime with its exponent, such as 2^3") from None
+    except InputError as error:
+        raise InputError(f"{text!r} is not a prime with its exponent, such as 2^3: {error}") from None
 
 
 def is_list(text: str) -> bool:

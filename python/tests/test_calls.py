@@ -244,17 +244,13 @@ class Refusals(unittest.TestCase):
         words = "3: the second logger has 3 readings, but the first pattern has 2 weights"
         self.check(words, (4, None, None), dowelbrook.same_feeding, [1, 2], [3, 2], [3, 2], [1, 2, 3], 8)
 
-    def test_moduli_and_factors(self):
+    def test_moduli(self):
         for m in 0, 1, 1_000_001, 2**32 - 1:
             words = f"4: the modulus {m} is not from 2 to 1,000,000"
             self.check(words, self.NOTHING, dowelbrook.invert, [1], m)
             self.check(words, self.NOTHING, dowelbrook.factor, m)
         self.assertEqual((dowelbrook.invert([1], 2), dowelbrook.factor(2)), ([1], [(2, 1)]))
         self.assertEqual(dowelbrook.factor(1_000_000), [(2, 6), (5, 6)])
-        words = "5: 2^1 3^1 is not the factor list of 10"
-        self.check(words, self.NOTHING, Logger, [1], 10, [(2, 1), (3, 1)])
-        self.check(words, self.NOTHING, dowelbrook.invert, [1], 10, [(2, 1), (3, 1)])
-        self.check("5: the empty list is not the factor list of 10", self.NOTHING, dowelbrook.invert, [1], 10, [])
 
     def test_entries(self):
         words = "6: reading 1 is 12, not below the modulus 10"
@@ -311,6 +307,110 @@ class Refusals(unittest.TestCase):
         sent = pickle.loads(pickle.dumps(kept))
         self.assertIs(type(sent), Singular)
         self.assertEqual((str(sent), sent.prime), (str(kept), 2))
+
+
+class FactorLists(unittest.TestCase):
+    """Which part of a factor list is bad, told alike by every call that takes one."""
+
+    EIGHT = [(prime, 1) for prime in (2, 3, 5, 7, 11, 13, 17, 19)]
+    CALLS = {
+        "invert": lambda m, factors, entry=1: dowelbrook.invert([entry], m, factors),
+        "unmix": lambda m, factors, entry=1: dowelbrook.unmix([entry], [1], m, factors),
+        "same_feeding": lambda m, factors, entry=1: dowelbrook.same_feeding([entry], [1], [1], [1], m, factors),
+        "Logger": lambda m, factors, entry=1: Logger([entry], m, factors),
+    }
+
+    def check(self, words, place, m, factors, entry=1):
+        for name, call in self.CALLS.items():
+            with self.subTest(call=name, factors=factors):
+                refusal = refusal_of(call, m, factors, entry)
+                self.assertEqual(str(refusal), f"refused {words}")
+                self.assertEqual((refusal.ring, refusal.place, refusal.prime), (None, place, None))
+                self.assertEqual(refusal.name, dowelbrook.NUMBERS[refusal.number].name)
+
+    def test_sizes(self):
+        self.check("5: the factor list is empty", None, 12, [])
+        self.check("5: the factor list has 8 entries, more than 7", None, 510_510, self.EIGHT)
+        self.check("5: the factor list has 1,000 entries, more than 7", None, 12, [(2, 2), (3, 1)] * 500)
+        self.assertEqual(dowelbrook.invert([1], 510_510, self.EIGHT[:7]), [1])
+
+    def test_exponents(self):
+        self.check("10: entry 0 of the factor list 2^0 3^1: the exponent of 2 is 0", 0, 12, [(2, 0), (3, 1)])
+        self.check("10: entry 1 of the factor list 2^2 5^0: the exponent of 5 is 0", 1, 12, [(2, 2), (5, 0)])
+        seventh = [*self.EIGHT[:6], (17, 0)]
+        words = "10: entry 6 of the factor list 2^1 3^1 5^1 7^1 11^1 13^1 17^0: the exponent of 17 is 0"
+        self.check(words, 6, 510_510, seventh)
+
+    def test_primes(self):
+        self.check("11: entry 0 of the factor list 4^1 3^1: 4 is not a prime", 0, 12, [(4, 1), (3, 1)])
+        self.check("11: entry 1 of the factor list 2^1 9^1: 9 is not a prime", 1, 18, [(2, 1), (9, 1)])
+        two_primes_multiplied = 65_519 * 65_521
+        for number in 0, 1, 6, 999_999, two_primes_multiplied, 2**32 - 1:
+            words = f"11: entry 1 of the factor list 2^1 {number}^1: {number} is not a prime"
+            self.check(words, 1, 12, [(2, 1), (number, 1)])
+
+    def test_order(self):
+        words = "12: entry 1 of the factor list 3^1 2^2: 2 is not above 3, the prime before"
+        self.check(words, 1, 12, [(3, 1), (2, 2)])
+        words = "12: entry 1 of the factor list 2^1 2^1 3^1: 2 is not above 2, the prime before"
+        self.check(words, 1, 12, [(2, 1), (2, 1), (3, 1)])
+        words = "12: entry 2 of the factor list 2^1 5^1 3^1: 3 is not above 5, the prime before"
+        self.check(words, 2, 30, [(2, 1), (5, 1), (3, 1)])
+
+    def test_products(self):
+        words = "13: the factor list 2^2 3^2 multiplies to 36, not to the modulus 12"
+        self.check(words, None, 12, [(2, 2), (3, 2)])
+        self.check("13: the factor list 2^3 multiplies to 8, not to the modulus 12", None, 12, [(2, 3)])
+        words = "13: the factor list 4294967291^1 multiplies to 4294967291, not to the modulus 12"
+        self.check(words, None, 12, [(4_294_967_291, 1)])
+
+    def test_products_that_a_word_would_wrap_to_the_modulus(self):
+        words = "13: the factor list 2^2 1073741827^1 multiplies to 4294967308, not to the modulus 12"
+        self.check(words, None, 12, [(2, 2), (1_073_741_827, 1)])
+        listed = [(prime, 1) for prime in (2, 13, 419, 691, 823, 2_977_518_503)]
+        words = "13: the factor list 2^1 13^1 419^1 691^1 823^1 2977518503^1 multiplies to 18446744073709551626, "
+        self.check(f"{words}not to the modulus 10", None, 10, listed)
+
+    def test_long_products_are_not_written_out(self):
+        words = "13: the factor list 2^20 5^19 multiplies to 20000000000000000000, not to the modulus 10"
+        self.check(words, None, 10, [(2, 20), (5, 19)])
+        words = "13: the factor list 2^20 5^20 multiplies to far more than the modulus 10"
+        self.check(words, None, 10, [(2, 20), (5, 20)])
+        words = "13: the factor list 2^255 3^1 multiplies to far more than the modulus 12"
+        self.check(words, None, 12, [(2, 255), (3, 1)])
+        longest = [(prime, 255) for prime, _ in self.EIGHT[:6]] + [(4_294_967_291, 255)]
+        self.assertEqual(refusal_of(dowelbrook.invert, [1], 12, longest).number, 13)
+
+    def test_the_first_bad_entry_is_told(self):
+        for number, place, factors in [
+            (5, None, [(4, 0)] * 8),
+            (11, 0, [(4, 1), (5, 0)]),
+            (10, 0, [(4, 0), (9, 1)]),
+            (10, 1, [(5, 1), (4, 0)]),
+            (11, 1, [(5, 1), (4, 1)]),
+            (12, 1, [(5, 1), (3, 1), (4, 0)]),
+            (12, 1, [(5, 1), (3, 1)]),
+            (13, None, [(3, 1), (5, 1)]),
+        ]:
+            for name, call in self.CALLS.items():
+                refusal = refusal_of(call, 12, factors)
+                self.assertEqual((refusal.number, refusal.place), (number, place), (name, factors))
+
+    def test_before_and_after_other_refusals(self):
+        wrong = {5: [], 10: [(2, 0)], 11: [(9, 1)], 12: [(3, 1), (2, 2)], 13: [(2, 1)]}
+        for number, factors in wrong.items():
+            for name, call in self.CALLS.items():
+                for m, entry, wanted in (1, 1, 4), (1_000_001, 1, 4), (12, 12, number), (12, 0, number):
+                    self.assertEqual(refusal_of(call, m, factors, entry).number, wanted, (name, factors, m, entry))
+            self.assertEqual(refusal_of(dowelbrook.invert, [], 12, factors).number, 1)
+            self.assertEqual(refusal_of(Logger, [0] * 1025, 12, factors).number, 2)
+            self.assertEqual(refusal_of(dowelbrook.unmix, [1, 2], [1], 12, factors).number, 3)
+            self.assertEqual(refusal_of(dowelbrook.same_feeding, [1], [1], [1], [], 12, factors).number, 3)
+
+    def test_lists_that_are_worked_out_are_not_refused(self):
+        for m in (*range(2, 3000), 510_510, 524_288, 531_441, 999_983, 999_999, 1_000_000):
+            self.assertEqual(dowelbrook.invert([1], m), [1])
+            self.assertEqual(dowelbrook.invert([1], m, dowelbrook.factor(m)), [1])
 
 
 class Loggers(unittest.TestCase):

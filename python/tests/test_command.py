@@ -14,6 +14,8 @@ from unittest import mock
 
 from dowelbrook.actions import Progress
 from dowelbrook.command import main
+from dowelbrook.drafts import sheet_from_text
+from dowelbrook.shown import field_table, text_form
 
 ROOT = Path(__file__).resolve().parents[2]
 COMMAND = str(ROOT / "tools" / "dowelbrook")
@@ -147,8 +149,6 @@ class Statuses(Typed):
         self.check(["unmix", "--modulus", "10", "1,2,0", "1,12,5"], 3, err=said)
         said = "dowelbrook: refused 4: the modulus 1 is not from 2 to 1,000,000\n"
         self.check(["factor", "1"], 3, err=said)
-        said = "dowelbrook: refused 5: 2^2 5^1 is not the factor list of 10\n"
-        self.check(["invert", "--modulus", "10", "--factors", "2^2,5", "1,2,0"], 3, err=said)
         said = "dowelbrook: refused 20 at byte 0: the header of a field is cut (cut.sheet)\n"
         self.check(["unmix", self.write("cut.sheet", b"\1\0")], 3, err=said)
 
@@ -216,8 +216,25 @@ class Numbers(Typed):
 
     def test_all(self):
         done = subprocess.run([sys.executable, COMMAND, "explain"], capture_output=True, text=True)
-        self.assertEqual(len(done.stdout.splitlines()), 15)
+        self.assertEqual(len(done.stdout.splitlines()), 19)
         self.assertIn("\n 6 COEFFICIENT an entry is not below the modulus\n", done.stdout)
+        self.assertIn("\n11 PRIME       a number in the factor list is not a prime\n", done.stdout)
+
+    def test_of_a_factor_list(self):
+        told = (
+            "12 ORDER: a prime in the factor list is not above the one before.\n"
+            "It tells: the place, counted from 0.\n"
+            "What to do: Put the primes in rising order, each once, as 2^2 for 2^1 2^1; `dowelbrook factor` prints the "
+            "list that is right.\n"
+        )
+        for number in "12", "order":
+            self.check(["explain", number], 0, told)
+        told = (
+            "13 PRODUCT: the powers in the factor list do not multiply to the modulus.\n"
+            "What to do: Look for a prime that is missing or does not belong there, for a wrong exponent, or for the "
+            "modulus of another logger; `dowelbrook factor` prints the list that is right.\n"
+        )
+        self.check(["explain", "13"], 0, told)
 
 
 class Sources(Typed):
@@ -271,7 +288,8 @@ class Sources(Typed):
         said = "dowelbrook: there are two factor lists, 5^1 2^1 and 2^1 5^1\n"
         self.check(["same", one, two], 2, err=said)
         for command in ["unmix", one], ["invert", one], ["same", one, one]:
-            self.check(command, 3, err="dowelbrook: refused 5: 5^1 2^1 is not the factor list of 10\n")
+            said = "dowelbrook: refused 12: entry 1 of the factor list 5^1 2^1: 2 is not above 5, the prime before\n"
+            self.check(command, 3, err=said)
         self.check(["invert", "--factors", "2,5", one], 0, "9 2 6\n")
 
     def test_the_parts_of_a_mix(self):
@@ -303,6 +321,67 @@ class Sources(Typed):
         name = self.write("w", WHOLE_CASE)
         said = "dowelbrook: there are two moduli, 8 and 10\n"
         self.check(["unmix", "--modulus", "8", name], 2, err=said)
+
+
+class FactorLists(Typed):
+    """Of a list that was typed wrongly, every subcommand that takes one says what is bad."""
+
+    WRONG = [
+        ("", "5: the factor list is empty"),
+        ("2^2,3^0", "10: entry 1 of the factor list 2^2 3^0: the exponent of 3 is 0"),
+        ("4^1,3^1", "11: entry 0 of the factor list 4^1 3^1: 4 is not a prime"),
+        ("[2^2, 9]", "11: entry 1 of the factor list 2^2 9^1: 9 is not a prime"),
+        ("3 2^2", "12: entry 1 of the factor list 3^1 2^2: 2 is not above 3, the prime before"),
+        ("2,2,3", "12: entry 1 of the factor list 2^1 2^1 3^1: 2 is not above 2, the prime before"),
+        ("2,3", "13: the factor list 2^1 3^1 multiplies to 6, not to the modulus 12"),
+        ("2^255", "13: the factor list 2^255 multiplies to far more than the modulus 12"),
+    ]
+
+    EIGHT = "2,3,5,7,11,13,17,19"
+
+    def test_typed_lists(self):
+        for factors, words in [*self.WRONG, (self.EIGHT, "5: the factor list has 8 entries, more than 7")]:
+            for command in ["unmix", "1", "1"], ["invert", "1"], ["same", "1", "1", "1", "1"]:
+                arguments = [*command, "--modulus", "12", "--factors", factors]
+                self.check(arguments, 3, err=f"dowelbrook: refused {words}\n")
+
+    def test_a_right_list_in_every_form(self):
+        for factors in "2^2,3^1", "2^2 3", "[2^2, 3]", "02^02,3":
+            self.check(["invert", "--modulus", "12", "--factors", factors, "5"], 0, "5\n")
+
+    def sheets(self):
+        """Files with each list in a sheet and in the text form, and the sheet."""
+        for factors, words in self.WRONG:
+            text = f"modulus 12\nfactors {factors}\npattern 1\nreadings 1\n"
+            sheet = sheet_from_text(text, "it")
+            yield self.write("x.sheet", sheet), sheet, words
+            yield self.write("x.txt", text), sheet, words
+
+    def test_sheets_and_texts(self):
+        for name, _, words in self.sheets():
+            for command in ["unmix", name], ["invert", name], ["same", name, name]:
+                self.check(command, 3, err=f"dowelbrook: refused {words}\n")
+
+    def test_show_tells_it(self):
+        for name, sheet, words in self.sheets():
+            self.check(["show", name], 3, "\n".join([*field_table(sheet), f"refused {words}\n"]))
+            self.check(["show", "--text", name], 3, "\n".join([*text_form(sheet), f"# refused {words}\n"]))
+
+    def test_make_warns_of_it(self):
+        sheet = "01 0001 01\n02 0004 0000000C\n03 000A 00000002 02 00000009 01\n04 0004 00000001\n"
+        warned = "11: entry 1 of the factor list 2^2 9^1: 9 is not a prime"
+        said = f"dowelbrook: the sheet is written, but it will be refused {warned}\n"
+        typed = ["--modulus", "12", "--factors", "2^2,9", "--pattern", "1"]
+        self.check(["make", "--hex", *typed], 0, sheet, said)
+        text = self.write("x.txt", "modulus 12\nfactors 2^2 9\npattern 1\n")
+        self.check(["make", "--hex", text], 0, sheet, said)
+
+    def test_eight_entries_make_no_sheet_that_reads(self):
+        warned = "22 at byte 11: the factors field cannot have 40 bytes: an entry has 5, and there are at most 7"
+        typed = ["--modulus", "12", "--factors", self.EIGHT, "--pattern", "1"]
+        done = subprocess.run([sys.executable, COMMAND, "make", *typed], capture_output=True, text=True)
+        said = f"dowelbrook: the sheet is written, but it will be refused {warned}\n"
+        self.assertEqual((done.returncode, done.stderr), (0, said))
 
 
 class Sheets(Typed):

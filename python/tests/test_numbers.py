@@ -4,7 +4,7 @@ import re
 import unittest
 from pathlib import Path
 
-from dowelbrook.numbers import LEAST_MODULUS, MOST_ENTRIES, MOST_MODULUS, TABLE
+from dowelbrook.numbers import LEAST_MODULUS, MOST_ENTRIES, MOST_FACTORS, MOST_MODULUS, TABLE
 
 HEADER = Path(__file__).resolve().parents[2] / "include" / "dowelbrook.h"
 
@@ -41,11 +41,14 @@ class TheTable(unittest.TestCase):
     def test_limits_are_the_headers(self):
         stated = f"n is 1 to {MOST_ENTRIES:,} and m is {LEAST_MODULUS} to {MOST_MODULUS:,}"
         self.assertIn(stated, HEADER.read_text())
+        self.assertIn(f"or there are none, or more than {MOST_FACTORS} */", HEADER.read_text())
 
     def test_limits_stand_in_the_meanings(self):
         meanings = {row.name: row.meaning for row in TABLE}
         self.assertEqual(meanings["LARGE"], "ring 1 has more than 1,024 entries")
         self.assertEqual(meanings["MODULUS"], "the modulus is below 2 or above 1,000,000")
+        words = "the factor list has no entry, or more than 7, or not as many primes as exponents"
+        self.assertEqual(meanings["FACTORS"], words)
 
 
 if __name__ == "__main__":

@@ -1,5 +1,6 @@
 """Sheets: the package's own grammar against the library, and back from the text form."""
 
+import itertools
 import random
 import unittest
 from pathlib import Path
@@ -7,7 +8,7 @@ from pathlib import Path
 import dowelbrook
 from dowelbrook.actions import program_refusal
 from dowelbrook.drafts import sheet_from_options, sheet_from_text
-from dowelbrook.grammar import fault_of
+from dowelbrook.grammar import fault_of, fields_of
 from dowelbrook.shown import field_table, text_form
 from dowelbrook.typed import InputError, bytes_of, factors_of, items_of, numbers_of
 
@@ -16,6 +17,8 @@ EXAMPLES = Path(__file__).resolve().parents[2] / "examples"
 WHOLE_CASE = bytes.fromhex(
     "01000101 0200040000000A 03000A00000002010000000501" "04000C000000010000000200000000 05000C000000010000000200000005"
 )
+
+LENGTHS_OF_FACTORS = "an entry has 5, and there are at most 7"
 
 
 def wrong_sheets(count):
@@ -35,6 +38,18 @@ def wrong_sheets(count):
             else:
                 sheet[at:at] = sheet[at : at + drawn.randrange(4)]
         yield bytes(sheet)
+
+
+def sheet_with(factors):
+    """A sheet of modulus 12 with this factor list."""
+    return sheet_from_text(f"modulus 12\nfactors {factors}\npattern 1 2 0\n", "it")
+
+
+def wrong_lists(count):
+    """Sheets with drawn factor lists."""
+    drawn = random.Random(2)
+    for _ in range(count):
+        yield sheet_with(" ".join(drawn.choices("2^2 2^2 3 3 5 2^0 1 4 2^255".split(), k=drawn.randrange(9))))
 
 
 def first_line(refusal):
@@ -59,13 +74,40 @@ class Reading(unittest.TestCase):
 
     def test_what_is_judged_is_what_the_program_prints(self):
         met = set()
-        for sheet in wrong_sheets(4000):
+        for sheet in itertools.chain(wrong_sheets(4000), wrong_lists(1000)):
             refusal, line = program_refusal(sheet), dowelbrook.report(sheet).partition("\n")[0]
             self.assertEqual(line.startswith("refused"), refusal is not None, sheet.hex())
             if refusal:
                 self.assertEqual(first_line(refusal), line)
                 met.add(refusal.number)
-        self.assertLessEqual({4, 5, 6}, met)
+        self.assertLessEqual({4, 5, 6, 10, 11, 12, 13, 22}, met)
+
+    def test_which_part_of_a_factor_list_is_bad(self):
+        for factors, printed, words in [
+            ("", "5", "the factor list is empty"),
+            ("2^2 3^0", "10 at 1", "entry 1 of the factor list 2^2 3^0: the exponent of 3 is 0"),
+            ("4^1 3^1", "11 at 0", "entry 0 of the factor list 4^1 3^1: 4 is not a prime"),
+            ("2^2 1", "11 at 1", "entry 1 of the factor list 2^2 1^1: 1 is not a prime"),
+            ("3 2^2", "12 at 1", "entry 1 of the factor list 3^1 2^2: 2 is not above 3, the prime before"),
+            ("2 2 3", "12 at 1", "entry 1 of the factor list 2^1 2^1 3^1: 2 is not above 2, the prime before"),
+            ("2 3", "13", "the factor list 2^1 3^1 multiplies to 6, not to the modulus 12"),
+            ("2^2 3 5 7 11 13 17 19", "22 at 11", "the factors field cannot have 40 bytes: " + LENGTHS_OF_FACTORS),
+        ]:
+            sheet = sheet_with(factors)
+            self.assertEqual(dowelbrook.report(sheet), f"refused {printed}\n")
+            self.assertEqual(program_refusal(sheet).words, words)
+        self.assertEqual(dowelbrook.report(sheet_with("2^2 3")).partition("\n")[0], "ring 3 modulus 12")
+
+    def test_lengths_that_a_field_cannot_have(self):
+        for tag, length, words in [
+            (1, 2, "the version field cannot have 2 bytes: it has 1"),
+            (2, 5, "the modulus field cannot have 5 bytes: it has 4"),
+            (3, 7, "the factors field cannot have 7 bytes: " + LENGTHS_OF_FACTORS),
+            (4, 4100, "the pattern field cannot have 4100 bytes: an entry has 4, and there are at most 1,024"),
+        ]:
+            before = next(field.offset for field in fields_of(WHOLE_CASE) if field.tag == tag)
+            fault = fault_of(WHOLE_CASE[:before] + bytes([tag]) + length.to_bytes(2, "big") + bytes(length))
+            self.assertEqual(fault, (22, before, words))
 
     def test_a_table_shows_every_sheet(self):
         for sheet in wrong_sheets(500):
@@ -139,8 +181,19 @@ class Making(unittest.TestCase):
         self.assertEqual(factors_of("2^3,5"), [(2, 3), (5, 1)])
         for text in "x", "-1", "+1", "1.0", "1_0", "4294967296", "\u0663", "1e3", "12345678901", "-", "9" * 5000:
             self.assertRaisesRegex(InputError, "is not a whole number from 0 to 4294967295", numbers_of, text)
-        for text in "2^", "2^256", "2^-1", "^2":
-            self.assertRaisesRegex(InputError, "is not a prime with its exponent, such as 2.3$", factors_of, text)
+        for text, part, most in [
+            ("2^", "", 255),
+            ("2^256", "256", 255),
+            ("2^-1", "-1", 255),
+            ("2^3^1", "3^1", 255),
+            ("^2", "", 4294967295),
+            ("2*3^2", "2*3", 4294967295),
+        ]:
+            with self.assertRaises(InputError) as caught:
+                factors_of(f"2,{text}")
+            why = f"'{part}' is not a whole number from 0 to {most}"
+            said = f"'{text}' is not a prime with its exponent, such as 2^3: {why}"
+            self.assertEqual(str(caught.exception), said)
 
     def test_the_examples_are_made_from_their_texts(self):
         texts = sorted(EXAMPLES.glob("*.txt"))

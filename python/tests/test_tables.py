@@ -53,6 +53,12 @@ class Counting(unittest.TestCase):
                 self.assertEqual(made[at][2], f"{refusal}".replace(" is", f" of line {at + 2} is"))
                 self.assertEqual(made[at][3:], [""] * 4)
 
+    def test_factor_lists_are_worked_out(self):
+        moduli = 2, 12, 30_030, 510_510, 524_288, 999_983, 1_000_000
+        loggers = "name,m,w0\n" + "".join(f"n{m},{m},1\n" for m in moduli)
+        made = rows("".join(f"1,n{m},1\n" for m in moduli), loggers)
+        self.assertEqual(made, [["1", f"n{m}", "", "1"] for m in moduli])
+
     def test_progress_is_told(self):
         told = []
         known = read_loggers(Table(io.StringIO(LOGGERS), "loggers"))

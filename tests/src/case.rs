@@ -1,6 +1,7 @@
 //! One call's inputs, and its output as it comes.
 
 use crate::door::{Reply, Verdict, DONE};
+use crate::factors::List;
 
 #[derive(Clone, Debug, Default)]
 pub struct Case {
@@ -18,6 +19,11 @@ impl Case {
     /// The length of ring 1.
     pub fn n(&self) -> usize {
         self.rings[0].len()
+    }
+
+    /// With another factor list.
+    pub fn with_list(self, list: List) -> Self {
+        Case { primes: list.primes, exponents: list.exponents, ..self }
     }
 }
 

@@ -41,15 +41,15 @@ impl<'a> Counts<'a> {
     }
 
     pub fn head() -> String {
-        format!("{:<8}{:<40}{:>9}{:>9}\n", "part", "kind", "met", "at least")
+        format!("{:<14}{:<40}{:>9}{:>9}\n", "part", "kind", "met", "at least")
     }
 }
 
 impl fmt::Display for Counts<'_> {
     fn fmt(&self, to: &mut fmt::Formatter) -> fmt::Result {
-        writeln!(to, "{:<8}{:<40}{:>9}", self.part.name, "answers", self.answers)?;
+        writeln!(to, "{:<14}{:<40}{:>9}", self.part.name, "answers", self.answers)?;
         for ((name, least), met) in self.part.kinds.iter().zip(&self.met) {
-            writeln!(to, "{:<8}{name:<40}{met:>9}{least:>9}", "")?;
+            writeln!(to, "{:<14}{name:<40}{met:>9}{least:>9}", "")?;
         }
         Ok(())
     }

@@ -2,23 +2,32 @@
 
 use crate::calls::Call;
 use crate::case::Case;
-use crate::factors::{self, List};
+use crate::factors::draw::with_faults;
+use crate::factors::List;
 use crate::numbers::Number;
 use crate::patterns;
 use crate::random::Random;
 
 /// Every set of one, two or three faults that one case of the call can have.
 pub fn fault_sets(call: &Call) -> Vec<Vec<Number>> {
+    sets(call.order(), |earlier, later| call.can_meet(earlier, later)).split_off(1)
+}
+
+/// Every set of at most three of the faults, beginning with none, of which any two can meet.
+pub fn sets(
+    faults: impl Iterator<Item = Number>,
+    can_meet: impl Fn(Number, Number) -> bool,
+) -> Vec<Vec<Number>> {
     let mut sets = vec![vec![]];
-    for number in call.order() {
+    for fault in faults {
         for index in 0..sets.len() {
-            let set = &sets[index];
-            if set.len() < 3 && set.iter().all(|&earlier| call.can_meet(earlier, number)) {
-                sets.push([&set[..], &[number]].concat());
+            let set: &Vec<Number> = &sets[index];
+            if set.len() < 3 && set.iter().all(|&earlier| can_meet(earlier, fault)) {
+                sets.push([&set[..], &[fault]].concat());
             }
         }
     }
-    sets.split_off(1)
+    sets
 }
 
 pub fn case(call: &Call, faults: &[Number], random: &mut Random) -> Case {
@@ -32,7 +41,7 @@ pub fn case_of_length(n: usize, call: &Call, faults: &[Number], random: &mut Ran
     let mut case = Case { rings, m, ..Case::default() };
     if !call.patterns.is_empty() {
         draw_patterns(call, &mut case, faults, random);
-        draw_factors(&mut case, faults, random);
+        case = case.with_list(with_faults(m, faults, random));
     }
     if faults.contains(&Number::Mismatch) {
         spoil_lengths(&mut case, random);
@@ -44,6 +53,15 @@ pub fn case_of_length(n: usize, call: &Call, faults: &[Number], random: &mut Ran
     case
 }
 
+/// A short case with this modulus and this factor list, all else being legal.
+pub fn case_with_list(list: &List, call: &Call, random: &mut Random) -> Case {
+    let n = 1 + random.below(4);
+    let rings = (0..call.rings).map(|_| ring(n, list.m, random)).collect();
+    let mut case = Case { rings, m: list.m, ..Case::default() }.with_list(list.clone());
+    (call.complete)(&mut case, &[], random);
+    case
+}
+
 fn length(call: &Call, faults: &[Number], random: &mut Random) -> usize {
     if faults.contains(&Number::Empty) {
         return 0;
@@ -52,13 +70,19 @@ fn length(call: &Call, faults: &[Number], random: &mut Random) -> usize {
         return random.one_of(&[1_025, 1_026, 1_088, 1_280, 2_048]);
     }
     if !call.patterns.is_empty() {
-        return short_length(random);
+        let few = refused(faults) && random.below(8) > 0;
+        return if few { 1 + random.below(8) } else { short_length(random) };
     }
     match random.below(100) {
         0 => random.one_of(&[1_024, 1_023, 1_021, 1_008, 720, 512, 257]),
         1 => 1 + random.below(1_024),
         _ => 1 + random.below(64),
     }
+}
+
+/// Whether a check refuses: then nothing is inverted, and few entries show as much as many.
+fn refused(faults: &[Number]) -> bool {
+    faults.iter().any(|&fault| fault != Number::Singular)
 }
 
 /// 1 to 64, mostly such that elimination takes no time.
@@ -72,18 +96,20 @@ pub fn short_length(random: &mut Random) -> usize {
 
 fn modulus(faults: &[Number], random: &mut Random) -> u32 {
     if faults.contains(&Number::Modulus) {
-        let above = random.between(1_000_001, u32::MAX);
-        return random.one_of(&[0, 1, 1_000_001, u32::MAX, above]);
+        // Fewer below 2: those have no factor list.
+        let (below, above) = (random.between(0, 1), random.between(1_000_001, u32::MAX));
+        return random.one_of(&[below, 1_000_001, 1_000_001, 1_000_002, u32::MAX, u32::MAX, above]);
     }
     legal_modulus(random)
 }
 
 /// Primes, prime powers, and products of many primes and of few.
+pub const TELLING: [u32; 16] = [
+    2, 3, 4, 8, 9, 10, 524_288, 531_441, 823_543, 994_009, 510_510, 720_720, 999_983, 999_999,
+    999_958, 1_000_000,
+];
+
 pub fn legal_modulus(random: &mut Random) -> u32 {
-    const TELLING: [u32; 16] = [
-        2, 3, 4, 8, 9, 10, 524_288, 531_441, 823_543, 994_009, 510_510, 720_720, 999_983, 999_999,
-        999_958, 1_000_000,
-    ];
     match random.below(4) {
         0 => random.between(2, 60),
         1 => random.between(2, 1_000_000),
@@ -110,16 +136,13 @@ fn draw_patterns(call: &Call, case: &mut Case, faults: &[Number], random: &mut R
     }
 }
 
-/// The factor list of m, or the fault FACTORS.
-fn draw_factors(case: &mut Case, faults: &[Number], random: &mut Random) {
-    let wrong = faults.contains(&Number::Factors);
-    let list = if wrong { factors::wrong(case.m, random) } else { List::of(case.m) };
-    (case.primes, case.exponents) = (list.primes, list.exponents);
-}
-
-/// n entries below m: all sorts, mostly 0, near the ends, or all the largest.
+/// n entries below m: all sorts, mostly 0, near the ends, or all the largest. In a ring that is too
+/// long they are all the same, since to draw them would take longer than the call.
 pub fn ring(n: usize, m: u32, random: &mut Random) -> Vec<u32> {
     let top = m.saturating_sub(1);
+    if n > 1_024 {
+        return vec![random.between(0, top); n];
+    }
     let kind = random.below(8);
     let entry = |_| match kind {
         0 => [0, 0, 0, random.between(0, top)][random.below(4)],

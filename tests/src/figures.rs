@@ -2,6 +2,7 @@
 
 use crate::case::Case;
 use crate::door::{Reply, Verdict, DONE};
+use crate::factors;
 use crate::numbers::Number::*;
 use crate::patterns::ones;
 
@@ -33,4 +34,14 @@ pub fn limits(simplest: fn(Vec<u32>, u32) -> Case) -> Vec<Figure> {
         (vec![0, 0, 1_000_000], 1_000_000, third_entry),
     ];
     figures.into_iter().map(|(ring, m, reply)| (simplest(ring, m), reply.into(), None)).collect()
+}
+
+/// Factor lists, for a call that `simplest` makes of a ring and a modulus, with all else legal.
+pub fn lists(simplest: fn(Vec<u32>, u32) -> Case) -> Vec<Figure> {
+    let figures = factors::figures::figures().into_iter();
+    let of_call = |(list, refusal): factors::figures::Figure| {
+        let case = simplest(ones(3, 1, 1), list.m).with_list(list);
+        (case, factors::reply(refusal).into(), None)
+    };
+    figures.map(of_call).collect()
 }

@@ -1,6 +1,6 @@
 //! Compares the C door, the inner functions and the program with a second implementation, written from
-//! document 01 alone: answer, told values and the whole content of every lent buffer. And the tables of
-//! numbers that the header, the Python module and README.md have.
+//! documents 01 and 02 alone: answer, told values and the whole content of every lent buffer. And the
+//! tables of numbers that the header, the Python module and README.md have.
 
 mod calls;
 mod case;
@@ -31,12 +31,16 @@ use calls::Call;
 use counts::Counts;
 use random::Random;
 use shares::{Agreement, Share};
+use std::iter;
 use std::process::ExitCode;
 use tally::Tally;
 
 const USAGE: &str = "usage: comparison [--sheets COUNT | --program COUNT] [SEED]";
 const SEED: u64 = 20_260;
-const CASES_EACH: usize = 100_000;
+/// Of each call: cases without a fault, with faults, and with each set of faults at least so many.
+const LEGAL: usize = 50_000;
+const FAULTY: usize = 50_000;
+const OF_EACH_SET: usize = 700;
 
 /// How many of each sort agree.
 type Agreed = Vec<(usize, &'static str)>;
@@ -101,14 +105,15 @@ struct Group {
     shares: Vec<Share>,
 }
 
-fn groups() -> [Group; 4] {
+fn groups() -> [Group; 5] {
     let group = |what, least, parts| {
         let (head, shares) = (Counts::head(), parts::shares(parts));
         Group { what, least, head, shares }
     };
     let (head, shares) = (Tally::head(), shares_of_calls());
     [
-        Group { what: "cases", least: 600_000, head, shares },
+        Group { what: "cases", least: 900_000, head, shares },
+        group("factor lists in calls", 300_000, &calls::lists::ALL),
         group("inner answers", 3_000_000, &probe::ALL),
         group("sheets", 2_000_000, &sheets::ALL),
         group("runs of the program", 10_000, &[program::PART]),
@@ -161,15 +166,16 @@ fn run_as(name: &str, run: Run, random: &mut Random) -> Result<Agreement, String
     Ok(Agreement { answers, text: format!("{name:<30}{answers:>8}\n") })
 }
 
-/// Legal cases and each set of faults in turn.
+/// Legal cases, and each set of faults in turn.
 fn draw_and_compare<'a>(call: &'a Call, random: &mut Random) -> Result<Tally<'a>, String> {
     let fault_sets = draw::fault_sets(call);
+    let faulty = FAULTY.max(OF_EACH_SET * fault_sets.len());
+    let no_fault = vec![];
+    let legal = iter::repeat_n(&no_fault, LEGAL);
     let mut tally = Tally::new(call);
-    for round in 0..CASES_EACH / 2 {
-        for faults in [&[][..], &fault_sets[round % fault_sets.len()]] {
-            let case = draw::case(call, faults, random);
-            tally.count(&compare::case(call, &case, random)?);
-        }
+    for faults in legal.chain(fault_sets.iter().cycle().take(faulty)) {
+        let case = draw::case(call, faults, random);
+        tally.count(&compare::case(call, &case, random)?);
     }
     Ok(tally)
 }

@@ -1,8 +1,8 @@
-//! Document 01's numbers: what each is called, what it tells, and which of two comes first.
+//! The numbers of document 01 and of document 02's first request: what each is called, what it tells,
+//! and which of two comes first.
 
 use crate::door::Reply;
 use Number::*;
-use Told::*;
 
 #[derive(Clone, Copy, Debug, PartialEq, Eq)]
 pub enum Number {
@@ -15,6 +15,10 @@ pub enum Number {
     Room = 7,
     Divisor = 8,
     Singular = 9,
+    Exponent = 10,
+    Prime = 11,
+    Order = 12,
+    Product = 13,
     Cut = 20,
     Tag = 21,
     Length = 22,
@@ -23,9 +27,28 @@ pub enum Number {
 }
 
 /// "Checks run in this order, each where the call has the thing checked": the one list that says which
-/// of two refusals comes first. A number's size says nothing of it.
-pub const ORDER: [Number; 9] =
-    [Empty, Large, Mismatch, Modulus, Factors, Coefficient, Room, Divisor, Singular];
+/// of two refusals comes first, but for those of a factor entry. A number's size says nothing of it.
+pub const ORDER: [Number; 13] = [
+    Empty,
+    Large,
+    Mismatch,
+    Modulus,
+    Factors,
+    Exponent,
+    Prime,
+    Order,
+    Product,
+    Coefficient,
+    Room,
+    Divisor,
+    Singular,
+];
+
+/// The refusals of a factor list.
+pub const OF_A_LIST: [Number; 5] = [Factors, Exponent, Prime, Order, Product];
+
+/// Those of one of its entries. They are given "entry by entry from the first".
+pub const OF_AN_ENTRY: [Number; 3] = [Exponent, Prime, Order];
 
 /// The refusals of a sheet, in whatever order its fields give them.
 pub const OF_A_SHEET: [Number; 5] = [Cut, Tag, Length, Missing, Version];
@@ -39,8 +62,8 @@ pub enum Told {
 }
 
 /// The refusals that a call gives, in the order of document 01.
-pub fn in_order(gives: &[Number]) -> impl Iterator<Item = Number> + '_ {
-    ORDER.into_iter().filter(|number| gives.contains(number))
+pub fn in_order<'a>(gives: &'a [&'a [Number]]) -> impl Iterator<Item = Number> + 'a {
+    ORDER.into_iter().filter(|number| gives.iter().any(|group| group.contains(number)))
 }
 
 impl Number {
@@ -50,11 +73,12 @@ impl Number {
 
     pub fn tells(self) -> &'static [Told] {
         match self {
-            Empty | Large | Modulus | Factors | Room | Divisor => &[],
-            Mismatch => &[Ring],
-            Coefficient => &[Ring, Place],
-            Singular => &[Ring, Prime],
-            Cut | Tag | Length | Missing | Version => &[Place],
+            Empty | Large | Modulus | Factors | Product | Room | Divisor => &[],
+            Mismatch => &[Told::Ring],
+            Coefficient => &[Told::Ring, Told::Place],
+            Singular => &[Told::Ring, Told::Prime],
+            Exponent | Prime | Order => &[Told::Place],
+            Cut | Tag | Length | Missing | Version => &[Told::Place],
         }
     }
 
@@ -63,20 +87,35 @@ impl Number {
         ORDER.iter().position(|&number| number == self).unwrap()
     }
 
+    /// Of two refusals the one with the lower turn is given: between two factor entries the place
+    /// decides, and else the order.
+    pub fn turn(self, place: usize) -> [usize; 3] {
+        if OF_AN_ENTRY.contains(&self) {
+            [OF_AN_ENTRY[0].rank(), place, self.rank()]
+        } else {
+            [self.rank(), 0, 0]
+        }
+    }
+
     /// The refusal with this number: it has the values that the number tells, and 0 for the others.
     pub fn reply(self, ring: usize, place: usize, prime: u32) -> Reply {
         let tells = |told| self.tells().contains(&told);
         Reply {
             number: self as u32,
-            prime: if tells(Prime) { prime } else { 0 },
-            ring: if tells(Ring) { ring } else { 0 },
-            place: if tells(Place) { place } else { 0 },
+            prime: if tells(Told::Prime) { prime } else { 0 },
+            ring: if tells(Told::Ring) { ring } else { 0 },
+            place: if tells(Told::Place) { place } else { 0 },
         }
     }
 
     /// The refusal with this number, which tells nothing besides.
     pub fn bare(self) -> Reply {
         self.reply(0, 0, 0)
+    }
+
+    /// The refusal with this number, which tells a place.
+    pub fn at(self, place: usize) -> Reply {
+        self.reply(0, place, 0)
     }
 }
 

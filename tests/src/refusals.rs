@@ -1,4 +1,5 @@
-//! The table of refusals of document 01, each line by itself and with no regard to the others.
+//! The refusals of document 01 and of document 02's first request, each by itself and with no regard to
+//! the others.
 
 use crate::calls::Call;
 use crate::case::Case;
@@ -7,26 +8,29 @@ use crate::door::Reply;
 use crate::factors::List;
 use crate::numbers::{in_order, Number};
 
-/// The refusal with this number, if it applies to the case. SINGULAR is the business of the call's
-/// answer, and a sheet's refusals are that of its fields.
-fn examine(number: Number, case: &Case) -> Option<Reply> {
+/// The refusal with this number, if it applies to the case, or to its list: there at the first place
+/// that has the fault. SINGULAR is the business of the call's answer, and a sheet's refusals are that
+/// of its fields.
+fn examine(number: Number, case: &Case, list: &List) -> Option<Reply> {
     match number {
         Number::Empty => bare(number, case.n() == 0),
         Number::Large => bare(number, case.n() > 1_024),
         Number::Mismatch => mismatch(case),
         Number::Modulus => bare(number, !(2..=1_000_000).contains(&case.m)),
-        Number::Factors => bare(number, !list(case).faults().is_empty()),
         Number::Coefficient => coefficient(case),
         Number::Room => bare(number, case.out.len() != case.n()),
         Number::Divisor => bare(number, !divides(case)),
-        _ => None,
+        _ => list.places(number).next().map(|place| number.at(place)),
     }
 }
 
-/// Every refusal but SINGULAR that applies, of those that are given, in the order of document 01.
-pub fn all(gives: &[Number], case: &Case) -> Vec<(Number, Reply)> {
-    let applies = |number| examine(number, case).map(|reply| (number, reply));
-    in_order(gives).filter_map(applies).collect()
+/// Every refusal but SINGULAR that applies, of those that the call has, the one given first.
+pub fn all(gives: &[&[Number]], case: &Case) -> Vec<(Number, Reply)> {
+    let list = list(case);
+    let applies = |number| examine(number, case, &list).map(|reply| (number, reply));
+    let mut refusals: Vec<(Number, Reply)> = in_order(gives).filter_map(applies).collect();
+    refusals.sort_by_key(|(number, reply)| number.turn(reply.place));
+    refusals
 }
 
 /// Whether besides a refusal a pattern is singular, as far as that can be said and is soon seen.

@@ -6,6 +6,8 @@ use Rattle.answer.specs.declared.Row.{Row}
 use Rattle.answer.specs.declared.Told.{Told}
 use Rattle.answer.specs.declared.Told.the-variants.{Nothing, Ring, RingAndPlace, RingAndPrime, Place}
 use Rattle.answer.specs.declared.Refusal.{Refusal}
+use Rattle.answer.specs.declared.Check.{Check}
+use Rattle.answer.specs.declared.Check.the-variants as check
 use Rattle.answer.specs.declared.Answer.{Answer}
 use Rattle.answer.specs.declared.Answer.the-variants.{Done, Singular, Refused}
 use Rattle.answer.specs.declared.Reply.{Reply}
@@ -27,6 +29,11 @@ abbrev pub reply : Answer → Reply
 reply Done = tell (row 0 Nothing) 0 0 0
 reply (Singular r p) = tell singular-row r 0 p
 reply (Refused r) = refusal-reply r
+
+-- What a check finds, alone.
+abbrev pub check-reply : Check → Reply
+check-reply check.Passed = reply Done
+check-reply (check.Refused r) = refusal-reply r
 
 -- A reply that is the number of an answer which fits.
 pub record Replied (Fits : Answer → Type 0) (r : Reply) : Type 0 where

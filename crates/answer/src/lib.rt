@@ -5,7 +5,7 @@ ghost use Rattle.answer.specs.Refuse.{refuse-if};
 ghost use Rattle.answer.specs.Numbers.{row, refusal-row};
 ghost use Rattle.answer.specs.Reply.{tell, refusal-reply, reply};
 
-// The refusals of document 01 by name: those of the table, then those of a sheet.
+// The refusals of documents 01 and 02 by name: those of document 01's table, those of an entry of a factor list and of its powers, then those of a sheet.
 pub enum Case {
     Empty,
     Large,
@@ -15,6 +15,10 @@ pub enum Case {
     Coefficient,
     Room,
     Divisor,
+    Exponent,
+    Prime,
+    Order,
+    Product,
     Cut,
     Tag,
     Length,
@@ -31,13 +35,13 @@ pub enum Told {
     Place,
 }
 
-// A row of document 01's table of numbers.
+// A row of the table of numbers.
 pub struct Row {
     pub number: u32,
     pub told: Told,
 }
 
-// A refusal, with the ring and the place that it tells; 0 where it tells none. A sheet's refusal has its offset for the place.
+// A refusal, with the ring and the place that it tells; 0 where it tells none. That of an entry of a factor list has the entry's place, a sheet's its offset.
 pub struct Refusal {
     pub case: Case,
     pub ring: usize,
@@ -94,7 +98,7 @@ fn numbered(number: u32, told: Told) -> Row
     Row { number, told }
 }
 
-// Document 01's table of numbers.
+// The table of numbers.
 pub fn row_of(case: Case) -> Row
     ensures { λ r. ⌜ r ≡ refusal-row case ⌝ }
 {
@@ -107,6 +111,10 @@ pub fn row_of(case: Case) -> Row
         Case::Coefficient => numbered(6, Told::RingAndPlace),
         Case::Room => numbered(7, Told::Nothing),
         Case::Divisor => numbered(8, Told::Nothing),
+        Case::Exponent => numbered(10, Told::Place),
+        Case::Prime => numbered(11, Told::Place),
+        Case::Order => numbered(12, Told::Place),
+        Case::Product => numbered(13, Told::Nothing),
         Case::Cut => numbered(20, Told::Place),
         Case::Tag => numbered(21, Told::Place),
         Case::Length => numbered(22, Told::Place),

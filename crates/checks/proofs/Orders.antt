@@ -1,7 +1,7 @@
 -- What a call that no check refuses has been given: the order lets only legal rings, moduli and lengths pass, and what is legal passes.
 -- Each check passes exactly where its test fails; a list of checks passes exactly where each does. Assumes nothing.
 use Prim.Native.Nat.{ℕ, suc, _%_, _≤_, _<_, _∣_}
-use mathlib.Core.Path.{_≡_, refl, _∙_}
+use mathlib.Core.Path.{_≡_, refl, ap, _∙_}
 use mathlib.Core.Bool.{false, not}
 use mathlib.Core.List.{List, [], _∷_, _++_}
 use native.Mathlib.Omega.{arith}
@@ -18,11 +18,24 @@ use Rattle.answer.specs.First.{or, first}
 use Rattle.answer.specs.declared.Case.the-variants.{Mismatch, Coefficient, Room, Divisor}
 use Rattle.answer.specs.declared.Check.{Check}
 use Rattle.answer.specs.declared.Check.the-variants.{Passed}
-use Rattle.answer.proofs.Firsts.{or-assoc, or-passed, first-append, both, cut, passes, neither}
+use Rattle.answer.proofs.Firsts.{or-assoc, or-passed, or-both, first-append, both, cut, passes, neither}
 use Rattle.checks.specs.Checks.{empty, large, mismatch, modulus, first-high, coefficient, divisor, room}
 use Rattle.checks.specs.Order.{order, mismatches, coefficients, ring-sizes, ring-order}
 use Rattle.checks.specs.Legal.{Rings, Legal}
 use Rattle.checks.proofs.FirstHigh.{high-before, high-at}
+
+-- ---- an order with more behind it
+
+-- What is looked at after all that came before: one check more, and a second.
+pub order-one : (before sizes : List Check) (modulus factors : Check) (entries : List Check) (c : Check)
+    → or (first (order before sizes modulus factors entries [])) c ≡ first (order before sizes modulus factors entries (c ∷ []))
+unfolding order
+order-one before sizes modulus factors entries c = simp (first-append, or-assoc, or-passed)
+
+pub order-two : (before sizes : List Check) (modulus factors : Check) (entries : List Check) (c d : Check)
+    → or (or (first (order before sizes modulus factors entries [])) c) d ≡ first (order before sizes modulus factors entries (c ∷ d ∷ []))
+unfolding order
+order-two before sizes modulus factors entries c d = simp (first-append, or-assoc, or-passed)
 
 -- ---- single checks
 
@@ -70,18 +83,7 @@ module _ (before sizes : List Check) (modulus factors : Check) (entries rest : L
   passes-whole p =
       first-append before (sizes ++ later) ∙ rw (p .before-passes) (first-append sizes later ∙ rw (p .sizes-pass, p .modulus-passes, p .factors-pass) (first-append entries rest ∙ rw (p .entries-pass) (p .rest-passes)))
 
--- What is looked at after all that came before: one check more, and a second.
-pub order-one : (before sizes : List Check) (modulus factors : Check) (entries : List Check) (c : Check)
-    → or (first (order before sizes modulus factors entries [])) c ≡ first (order before sizes modulus factors entries (c ∷ []))
-unfolding order
-order-one before sizes modulus factors entries c = simp (first-append, or-assoc, or-passed)
-
-pub order-two : (before sizes : List Check) (modulus factors : Check) (entries : List Check) (c d : Check)
-    → or (or (first (order before sizes modulus factors entries [])) c) d ≡ first (order before sizes modulus factors entries (c ∷ d ∷ []))
-unfolding order
-order-two before sizes modulus factors entries c d = simp (first-append, or-assoc, or-passed)
-
--- Checks 1 to 5 as the code chains them, then the entries: of one ring, two, and four.
+-- What comes before 6 as the code chains it, then the entries: of one ring, two, and four.
 abbrev pub shape : (n : ℕ) (lengths : Check) (m : ℕ) (factors : Check) → Check
 shape n lengths m factors = or (or (or (or (empty n) (large most-entries n)) lengths) (modulus least-modulus most-modulus m)) factors
 
@@ -156,14 +158,20 @@ sizes-legal most a others e =
 modulus-legal : (least most m : ℕ) → modulus least most m ≡ Passed → (least ≤ m) × (m ≤ most)
 modulus-legal least most m e = let range = neither (ltb m least) (ltb most m) (passes _ _ 0 0 e) in (ltb-false m least (range .0), ltb-false most m (range .1))
 
--- ---- a call on rings: one check more, and two; and what it has been given where no check refuses
+-- ---- a call on rings: one check more, and two, as the code finds them; and what it has been given where no check refuses
 
-module _ (a : List ℕ) (others : List (List ℕ)) (m : ℕ) (factors : Check) where
-  pub ring-one : (c : Check) → or (first (ring-order a others m factors [])) c ≡ first (ring-order a others m factors (c ∷ []))
-  ring-one c = order-one _ _ _ _ _ c
+-- In the factor list `listed` was found, in all up to 6 `found`, and `after` in what is looked at then.
+module _ (a : List ℕ) (others : List (List ℕ)) (m : ℕ) {listed factors found : Check} where
+  up-to-entries : found ≡ first (ring-order a others m listed []) → listed ≡ factors → found ≡ first (ring-order a others m factors [])
+  up-to-entries e list = e ∙ ap (λ x. first (ring-order a others m x [])) list
 
-  pub ring-two : (c d : Check) → or (or (first (ring-order a others m factors [])) c) d ≡ first (ring-order a others m factors (c ∷ d ∷ []))
-  ring-two c d = order-two _ _ _ _ _ c d
+  pub one-more : {after c r : Check} → r ≡ or found after → found ≡ first (ring-order a others m listed []) → listed ≡ factors → after ≡ c
+      → r ≡ first (ring-order a others m factors (c ∷ []))
+  one-more {c = c} e found list one = or-both e (up-to-entries found list) one ∙ order-one _ _ _ _ _ c
+
+  pub two-more : {after both last c d r : Check} → r ≡ or both last → both ≡ or found after → found ≡ first (ring-order a others m listed []) → listed ≡ factors → after ≡ c → last ≡ d
+      → r ≡ first (ring-order a others m factors (c ∷ d ∷ []))
+  two-more {c = c} {d = d} e e₁ found list one two = or-both e (or-both e₁ (up-to-entries found list) one) two ∙ order-two _ _ _ _ _ c d
 
 module _ (a : List ℕ) (others : List (List ℕ)) (m : ℕ) (factors : Check) (rest : List Check) where
   pub legal : first (ring-order a others m factors rest) ≡ Passed → Legal a others m × (factors ≡ Passed) × (first rest ≡ Passed)

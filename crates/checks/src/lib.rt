@@ -1,18 +1,16 @@
-// The checks of document 01's table, and their order in a call on rings.
+// The checks of document 01's table but for that of a factor list, and their order in a call on rings.
 use answer::Case;
 use answer::Check;
 use answer::refuse_if;
 use limits::LEAST_MODULUS;
 use limits::MOST_ENTRIES;
 use limits::MOST_MODULUS;
-use modular::factor::factor_fault;
 ghost use mathlib.Core.Path.{_≡_};
 ghost use mathlib.Core.List.{[], _∷_};
 ghost use Prim.Native.Nat.{_<_};
 ghost use Rattle.limits.specs.Limits.{most-entries, least-modulus, most-modulus};
 ghost use Rattle.answer.specs.First.{or, first};
 ghost use Rattle.checks.specs.Checks.{empty, large, mismatch, modulus, first-high, coefficient, room, divisor};
-ghost use Rattle.checks.specs.Factors.{factors};
 ghost use Rattle.checks.specs.Order.{ring-order};
 
 pub fn check_empty(n: usize) -> Check
@@ -37,12 +35,6 @@ pub fn check_modulus(m: u32, least: u32, most: u32) -> Check
     ensures { λ r. ⌜ r ≡ modulus least most m ⌝ }
 {
     refuse_if(m < least, Case::Modulus, 0, 0).or(refuse_if(most < m, Case::Modulus, 0, 0))
-}
-
-pub fn check_factors(primes: &[u32], exponents: &[u8], m: u32) -> Check
-    ensures { λ r. ⌜ r ≡ factors m (now (primes .entry)) (now (exponents .entry)) ⌝ }
-{
-    refuse_if(factor_fault(primes, exponents, m), Case::Factors, 0, 0)
 }
 
 // The place of the first entry that is m or more; the length where there is none.
@@ -92,7 +84,7 @@ pub fn then_entries(found: Check, a: &[u32], m: u32, ring: usize) -> Check
     }
 }
 
-// Checks 1 to 5 of a call whose ring 1 has n entries. `lengths` is what the checks of the other rings' lengths found, `factors` what that of the factor
+// What comes before 6 in a call whose ring 1 has n entries. `lengths` is what the checks of the other rings' lengths found, `factors` what that of the factor
 // list found: Passed where the call has none.
 fn check_shape(n: usize, lengths: Check, m: u32, factors: Check) -> Check
     ensures { λ r. ⌜ r ≡ or (or (or (or (empty n) (large most-entries n)) lengths) (modulus least-modulus most-modulus m)) factors ⌝ }
@@ -104,7 +96,7 @@ fn check_shape(n: usize, lengths: Check, m: u32, factors: Check) -> Check
         .or(factors)
 }
 
-// Checks 1 to 6 of a call with one ring.
+// All checks up to 6 of a call with one ring.
 pub fn check_ring(a: &[u32], m: u32, factors: Check) -> Check
     ensures { λ r. ⌜ r ≡ first (ring-order (now (a .entry)) [] m factors []) ⌝ }
 {

@@ -1,8 +1,8 @@
 // What a sheet comes to by what it holds: its rings are checked, the pattern is inverted or the readings unmixed, and the page put into a lent buffer.
 use answer::Check;
-use checks::check_factors;
 use checks::check_ring;
 use checks::check_rings;
+use factors::check_factors;
 use feeding::unmix_legal;
 use invert::Inversion;
 use invert::invert_legal;

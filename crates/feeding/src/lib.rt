@@ -1,11 +1,11 @@
 // The calls unmix and same feeding of document 01, and unmixing without its checks.
 use answer::Answer;
 use answer::Check;
-use checks::check_factors;
 use checks::check_four_rings;
 use checks::check_rings;
 use checks::check_room;
 use convolve::convolve;
+use factors::check_factors;
 use invert::Inversion;
 use invert::inversion_answer;
 use invert::invert_legal;

@@ -1,5 +1,5 @@
--- Every P line of document 01 holds, and none of the wrong lines: each kind of line can be shown or rejected by computation, and that of a whole table
--- is computed once. Assumes nothing.
+-- Every line of the table holds, and none of the wrong lines: each kind of line can be shown or rejected by computation, and that of a whole table is computed
+-- once. Assumes nothing.
 use Prim.Native.Nat.{ℕ, zero, suc, _*_, _/_, _%_, _<_, _∣_}
 use mathlib.Core.Path.{_≡_, refl, subst}
 use mathlib.Core.Logic.{_↔_}
@@ -18,11 +18,12 @@ use Rattle.ring.specs.One.{one, zeros}
 use Rattle.ring.specs.Fold.{fold}
 use Rattle.modular.specs.Prime.{Prime}
 use Rattle.modular.specs.FactorList.{FactorList}
-use Rattle.modular.specs.FactorTest.{undivided?, prime?, rising?, factor-list?}
+use Rattle.modular.specs.PrimeTest.{undivided?, prime?}
 use Rattle.modular.proofs.Factors.{divisor-listed}
-use Rattle.modular.proofs.FactorTest.{prime-exactly}
+use Rattle.modular.proofs.PrimeTest.{prime-exactly}
 use Rattle.checks.specs.Checks.{first-high}
 use Rattle.answer.specs.First.{first}
+use Rattle.answer.specs.Reply.{check-reply}
 use Rattle.checks.specs.Order.{order, ring-order}
 use Rattle.answer.specs.declared.Check.{Check}
 use Rattle.answer.specs.declared.Check.the-variants.{Passed, Refused}
@@ -35,7 +36,7 @@ use Rattle.pattern.specs.Factored.{factored}
 use Rattle.pattern.specs.Granted.{Granted}
 use Rattle.pattern.proofs.Granted.{granted, invert-passes}
 use Rattle.pattern.proofs.Demand2.{invert-ghost}
-use Rattle.figures.specs.Figures.{Line, inverse, ghost, mixed, folded, AllSingular, Says, Rejected, All, lines, wrong-lines}
+use Rattle.figures.specs.Figures.{Line, inverse, ghost, mixed, folded, listed, AllSingular, Says, Rejected, All, lines, wrong-lines}
 use Rattle.figures.proofs.Search.{same?, implies?, below?, ring?, clear?, clear-singular, unclear-singular, clear-least}
 
 infixl 1 _>>=_
@@ -112,10 +113,21 @@ also? f n1 (p ∷ ps) = do
   rest ← also? f n1 ps
   some (unclear-singular (length f) p prime n1 f refl c, rest)
 
+-- ---- what a check answers
+
+abbrev both? : {A B : Type 0} → Dec A → Dec B → Dec (A × B)
+both? (yes a) (yes b) = yes (a, b)
+both? (yes a) (no n) = no (λ h. n (h .1))
+both? (no n) d = no (λ h. n (h .0))
+
+unfoldable answered? : (c : Check) (number place : ℕ) → Dec ((check-reply c .number ≡ number) × (check-reply c .place ≡ place))
+unfolding ℕ-discrete
+answered? c number place = both? (ℕ-discrete (check-reply c .number) number) (ℕ-discrete (check-reply c .place) place)
+
 -- ---- the lines
 
 unfoldable says? : (l : Line) → Option (Says l)
-unfolding order first-high factors factor-list? rising? prime? undivided? degree? fine? also? ring? same? clear? decLt ℕ-discrete mix fold one zeros table sum
+unfolding answered? order first-high factors prime? undivided? degree? fine? also? ring? same? clear? decLt ℕ-discrete mix fold one zeros table sum
 says? (inverse m ps es f g) = do
   ok ← passed? (first (ring-order f [] m (factors m ps es) []))
   r ← if-yes (ring? (length f) m g)
@@ -158,6 +170,7 @@ says? (ghost m ps es f p out also) =
       )
 says? (mixed m a b c) = if-yes (same? (mix (length a) m a b) c)
 says? (folded m a c) = if-yes (same? (fold (length a) (length c) m a) c)
+says? (listed m ps es number place) = if-yes (answered? (factors m ps es) number place)
 
 -- ---- the wrong lines
 
@@ -181,7 +194,7 @@ smaller? m f n1 (q ∷ ps) p = or-else here (smaller? m f n1 ps p)
 
 -- Its product is not 1; a smaller prime is singular, or its readings are not zero; the ring is another one.
 unfoldable rejected? : (l : Line) → Option (Rejected l)
-unfolding smaller? same? decLt mix fold one zeros table sum
+unfolding smaller? answered? factors prime? undivided? same? decLt ℕ-discrete mix fold one zeros table sum
 rejected? (inverse m ps es f g) = do
   n ← if-no (same? (mix (length f) m f g) (one (length f) m))
   some (λ old h. n (h .meets .1 .product))
@@ -199,6 +212,7 @@ rejected? (ghost m ps es f p out also) = or-else first-prime heard
       some (λ old h. n (invert-ghost f (factored m ps es) old 1 p out h .silent))
 rejected? (mixed m a b c) = if-no (same? (mix (length a) m a b) c)
 rejected? (folded m a c) = if-no (same? (fold (length a) (length c) m a) c)
+rejected? (listed m ps es number place) = if-no (answered? (factors m ps es) number place)
 
 -- ---- the tables
 

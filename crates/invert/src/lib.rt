@@ -1,11 +1,11 @@
 // The call invert of document 01, and the same without its checks.
 use answer::Answer;
 use answer::Check;
-use checks::check_factors;
 use checks::check_ring;
 use checks::check_room;
 use euclid::Outcome;
 use euclid::euclid;
+use factors::check_factors;
 use lift::join;
 use lift::lift;
 use limits::MOST_ENTRIES;
@@ -161,7 +161,9 @@ pub fn inversion_answer(found: Inversion, ring: usize) -> Answer
 fn check_invert(f: &[u32], m: u32, primes: &[u32], exponents: &[u8], room: usize) -> Check
     ensures { λ r. ⌜ r ≡ first (invert-order (now (f .entry)) (factored m (now (primes .entry)) (now (exponents .entry))) room) ⌝ }
 {
-    check_ring(f, m, check_factors(primes, exponents, m)).or(check_room(f.len(), room))
+    let listed = check_factors(primes, exponents, m);
+    let fits = check_room(f.len(), room);
+    check_ring(f, m, listed).or(fits)
 }
 
 pub fn invert(f: &[u32], m: u32, primes: &[u32], exponents: &[u8], out: &mut [u32]) -> Answer

@@ -1,5 +1,5 @@
--- Trial division; extended Euclid on numbers and what it finds; primes in products; factor lists: every number has one, and only one, how long, tested, checked entry by entry;
--- doublings.
+-- Trial division, and primes tested; extended Euclid on numbers and what it finds; primes in products; factor lists: every number has one, and only one, how long,
+-- their powers multiplied entry by entry; doublings.
 pub mod Trial
 pub mod Euclid
 pub mod Inverses
@@ -8,6 +8,6 @@ pub mod Primes
 pub mod Factors
 pub mod Entries
 pub mod HasList
-pub mod FactorTest
-pub mod Faults
+pub mod PrimeTest
+pub mod Running
 pub mod Doublings

@@ -4,5 +4,5 @@ pub mod Gcd
 pub mod Finds
 pub mod Rounds
 pub mod FactorList
-pub mod FactorTest
-pub mod FactorFault
+pub mod PrimeTest
+pub mod Capped

@@ -1,45 +1,9 @@
-use crate::prime::is_prime;
 use words::wide;
+ghost use mathlib.Core.Path.{_≡_};
 ghost use Prim.Native.Nat.{_*_, _^_, _<_};
-ghost use Rattle.modular.specs.FactorList.{FactorEntry, Rising, powers, FactorList};
-ghost use Rattle.modular.specs.FactorFault.{Fault, Capped};
-
-// Whether a prime p with exponent e may not stand after the prime `before`.
-fn entry_fault(before: u32, p: u32, e: u8) -> bool
-    ensures { λ r. ⌜ Fault (FactorEntry before p e) r ⌝ }
-{
-    if e == 0 {
-        return true;
-    }
-    if !is_prime(p) {
-        return true;
-    }
-    if p <= before {
-        return true;
-    }
-    false
-}
-
-// Whether some entry is at fault, or one list is longer.
-fn entries_fault(primes: &[u32], exponents: &[u8]) -> bool
-    ensures { λ r. ⌜ Fault (Rising 0 (now (primes .entry)) (now (exponents .entry))) r ⌝ }
-{
-    if primes.len() != exponents.len() {
-        return true;
-    }
-    let mut before = 0;
-    let mut i = 0;
-    while i < primes.len() {
-        let p = primes[i];
-        let e = exponents[i];
-        if entry_fault(before, p, e) {
-            return true;
-        }
-        before = p;
-        i += 1;
-    }
-    false
-}
+ghost use lib.Dec.{eqb};
+ghost use Rattle.modular.specs.FactorList.{Rising, powers};
+ghost use Rattle.modular.specs.Capped.{Capped};
 
 // x times p^e, or some number above m where that is above m: no product wraps.
 fn times_power(x: u64, p: u32, e: u8, m: u32) -> u64
@@ -76,13 +40,12 @@ fn product(primes: &[u32], exponents: &[u8], m: u32) -> u64
     x
 }
 
-// Whether the lists are not the factor list of m.
-pub fn factor_fault(primes: &[u32], exponents: &[u8], m: u32) -> bool
-    ensures { λ r. ⌜ Fault (FactorList m (now (primes .entry)) (now (exponents .entry))) r ⌝ }
+// Whether the powers multiply to m.
+pub fn multiply_to(primes: &[u32], exponents: &[u8], m: u32) -> bool
+    requires { ⌜ Rising 0 (now primes) (now exponents) ⌝ }
+    ensures { λ r. ⌜ r ≡ eqb (powers (now (primes .entry)) (now (exponents .entry))) m ⌝ }
 {
-    if entries_fault(primes, exponents) {
-        return true;
-    }
-    let most = wide(m);
-    product(primes, exponents, m) != most
+    let whole = wide(m);
+    let made = product(primes, exponents, m);
+    made == whole
 }

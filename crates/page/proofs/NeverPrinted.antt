@@ -1,31 +1,32 @@
 -- The program never prints 2, 3, 7, 8 or 9: whatever the sheet, a refusal that is shown has another number. The reader refuses with 20 to 24 alone. Of an
--- accepted sheet the checks 1, 2, 3, 4, 5, 6 are made; a pattern part has at most 4,096 bytes, so that 2 finds nothing, and the readings have the pattern's
+-- accepted sheet the checks 1 to 6 and 10 to 13 are made; a pattern part has at most 4,096 bytes, so that 2 finds nothing, and the readings have the pattern's
 -- length, so that 3 finds nothing. Shown check by check: what each of them can refuse with. Assumes nothing.
 use Prim.Native.Nat.{ℕ, zero, suc, _+_, _-_, _/_, _≤_}
 use mathlib.Core.Path.{_≡_, refl, sym, ap, subst, _∙_}
 use mathlib.Core.Logic.{_≢_}
 use mathlib.Core.Bool.{Bool, true, false, not, cond, _&&_, _||_}
-use mathlib.Core.List.{List, [], _∷_}
+use mathlib.Core.List.{List, [], _∷_, _++_}
 use mathlib.Core.Option.{Option, none, some}
 use native.Mathlib.Omega.{arith}
-use borrow.Author.Tests.{eq-eqb, le-ltb}
+use borrow.Author.Tests.{eq-eqb, eqb-false, le-ltb}
 use lib.Dec.{eqb, ltb, leb}
 use lib.ListN.{length}
 use Rattle.sums.specs.Table.{at}
 use Rattle.sums.proofs.Tables.{length-table}
-use Rattle.limits.specs.Limits.{most-entries, least-modulus, most-modulus, header-bytes, entry-bytes}
-use Rattle.modular.specs.FactorTest.{factor-list?}
+use Rattle.limits.specs.Limits.{most-entries, most-factors, least-modulus, most-modulus, header-bytes, entry-bytes}
+use Rattle.modular.specs.FactorList.{powers}
+use Rattle.modular.specs.PrimeTest.{prime?}
 use Rattle.answer.specs.First.{or, first}
 use Rattle.answer.specs.Numbers.{refusal-row}
 use Rattle.answer.specs.Refuse.{refuse-if}
 use Rattle.answer.specs.declared.Case.{Case}
-use Rattle.answer.specs.declared.Case.the-variants.{Empty, Large, Mismatch, Modulus, Factors, Coefficient, Room, Divisor, Cut, Tag, Length, Missing, Version}
+use Rattle.answer.specs.declared.Case.the-variants.{Empty, Modulus, Factors, Coefficient, Exponent, Prime, Order, Product, Cut, Tag, Length, Missing, Version}
 use Rattle.answer.specs.declared.Check.{Check}
 use Rattle.answer.specs.declared.Check.the-variants.{Passed, Refused}
 use Rattle.answer.specs.declared.Refusal.{Refusal}
-use Rattle.answer.proofs.Firsts.{passed-refused}
+use Rattle.answer.proofs.Firsts.{passed-refused, neither}
 use Rattle.checks.specs.Checks.{empty, large, mismatch, modulus, first-high, coefficient}
-use Rattle.checks.specs.Factors.{factors}
+use Rattle.checks.specs.Factors.{list-sizes, entries-order, factors-order, factors}
 use Rattle.checks.specs.Order.{order}
 use Rattle.pattern.specs.Factored.{Factored}
 use Rattle.pattern.specs.Contracts.{listed-order}
@@ -42,35 +43,19 @@ use Rattle.page.proofs.Parts.{part-long}
 
 -- ---- the cases that are printed
 
-abbrev Printed : Case → Type 0
-Printed Empty = Unit {0}
-Printed Large = ⊥
-Printed Mismatch = ⊥
-Printed Modulus = Unit {0}
-Printed Factors = Unit {0}
-Printed Coefficient = Unit {0}
-Printed Room = ⊥
-Printed Divisor = ⊥
-Printed Cut = Unit {0}
-Printed Tag = Unit {0}
-Printed Length = Unit {0}
-Printed Missing = Unit {0}
-Printed Version = Unit {0}
+abbrev hidden? : ℕ → Bool
+hidden? k = eqb k 2 || (eqb k 3 || (eqb k 7 || (eqb k 8 || eqb k 9)))
 
-numbers : (c : Case) → Printed c → let k = refusal-row c .number in (k ≢ 2) × (k ≢ 3) × (k ≢ 7) × (k ≢ 8) × (k ≢ 9)
-numbers Empty p = (λ e. omega arith, λ e. omega arith, λ e. omega arith, λ e. omega arith, λ e. omega arith)
-numbers Large p = absurd p
-numbers Mismatch p = absurd p
-numbers Modulus p = (λ e. omega arith, λ e. omega arith, λ e. omega arith, λ e. omega arith, λ e. omega arith)
-numbers Factors p = (λ e. omega arith, λ e. omega arith, λ e. omega arith, λ e. omega arith, λ e. omega arith)
-numbers Coefficient p = (λ e. omega arith, λ e. omega arith, λ e. omega arith, λ e. omega arith, λ e. omega arith)
-numbers Room p = absurd p
-numbers Divisor p = absurd p
-numbers Cut p = (λ e. omega arith, λ e. omega arith, λ e. omega arith, λ e. omega arith, λ e. omega arith)
-numbers Tag p = (λ e. omega arith, λ e. omega arith, λ e. omega arith, λ e. omega arith, λ e. omega arith)
-numbers Length p = (λ e. omega arith, λ e. omega arith, λ e. omega arith, λ e. omega arith, λ e. omega arith)
-numbers Missing p = (λ e. omega arith, λ e. omega arith, λ e. omega arith, λ e. omega arith, λ e. omega arith)
-numbers Version p = (λ e. omega arith, λ e. omega arith, λ e. omega arith, λ e. omega arith, λ e. omega arith)
+abbrev Printed : Case → Type 0
+Printed c = hidden? (refusal-row c .number) ≡ false
+
+numbers : (k : ℕ) → hidden? k ≡ false → (k ≢ 2) × (k ≢ 3) × (k ≢ 7) × (k ≢ 8) × (k ≢ 9)
+numbers k e =
+    let x₂ = neither (eqb k 2) _ e in
+    let x₃ = neither (eqb k 3) _ (x₂ .1) in
+    let x₇ = neither (eqb k 7) _ (x₃ .1) in
+    let x₈ = neither (eqb k 8) (eqb k 9) (x₇ .1) in
+    (eqb-false k 2 (x₂ .0), eqb-false k 3 (x₃ .0), eqb-false k 7 (x₇ .0), eqb-false k 8 (x₈ .0), eqb-false k 9 (x₈ .1))
 
 abbrev Named : Check → Type 0
 Named Passed = Unit {0}
@@ -129,16 +114,16 @@ module _ (s : List ℕ) where
       let len = length-at s o in
       let rows = tags (version-of s come) in
       only-first (field-order s come o) (
-        only-if (ltb (length s - o) header-bytes) Cut 0 o tt,
+        only-if (ltb (length s - o) header-bytes) Cut 0 o refl,
         (
-          only-if (is-unknown (fit rows come tag len) || leb tag (last-tag come)) Tag 0 o tt,
+          only-if (is-unknown (fit rows come tag len) || leb tag (last-tag come)) Tag 0 o refl,
           (
-            only-if (lacks rows come tag) Missing 0 o tt,
+            only-if (lacks rows come tag) Missing 0 o refl,
             (
-              only-if (is-wrong (fit rows come tag len)) Length 0 o tt,
+              only-if (is-wrong (fit rows come tag len)) Length 0 o refl,
               (
-                only-if (ltb (length s - (o + header-bytes)) len) Cut 0 o tt,
-                (only-if (eqb tag 1 && not (known-version (at s (o + header-bytes)))) Version 0 o tt, tt),
+                only-if (ltb (length s - (o + header-bytes)) len) Cut 0 o refl,
+                (only-if (eqb tag 1 && not (known-version (at s (o + header-bytes)))) Version 0 o refl, tt),
               ),
             ),
           ),
@@ -146,7 +131,7 @@ module _ (s : List ℕ) where
       )
 
   only-end : (come : List Field) → OnlyRead (unless (end-check s come) (accepted come))
-  only-end come = only-unless (end-check s come) (accepted come) (only-if (lacks (tags (version-of s come)) come above-tags) Missing 0 (length s) tt) tt
+  only-end come = only-unless (end-check s come) (accepted come) (only-if (lacks (tags (version-of s come)) come above-tags) Missing 0 (length s) refl) tt
 
   only-walk : (most : ℕ) (come : List Field) (o : ℕ) → OnlyRead (walk most s come o)
   unfolding walk
@@ -168,20 +153,37 @@ Long n none = Unit {0}
 Long n (some y) = length y ≡ n
 
 only-empty : (f : List ℕ) → Only (empty (length f))
-only-empty f = only-if (eqb (length f) 0) Empty 0 0 tt
+only-empty f = only-if (eqb (length f) 0) Empty 0 0 refl
 
 large-passes : (f : List ℕ) → length f ≤ most-entries → Only (large most-entries (length f))
 large-passes f few = only-passed {c = large most-entries (length f)} (rw (le-ltb most-entries (length f) few))
 
 only-modulus : (M : Factored) → Only (modulus least-modulus most-modulus (M .modulus))
-only-modulus M = only-if (ltb (M .modulus) least-modulus || ltb most-modulus (M .modulus)) Modulus 0 0 tt
+only-modulus M = only-if (ltb (M .modulus) least-modulus || ltb most-modulus (M .modulus)) Modulus 0 0 refl
+
+each-append : (k l : List Check) → Each k → Each l → Each (k ++ l)
+each-append [] l a b = b
+each-append (c ∷ k) l a b = (a .0, each-append k l (a .1) b)
+
+each-entry : (before i : ℕ) (ps es : List ℕ) → Each (entries-order before i ps es)
+each-entry before i [] es = tt
+each-entry before i (p ∷ ps) [] = tt
+each-entry before i (p ∷ ps) (e ∷ es) =
+    (only-if (eqb e 0) Exponent 0 i refl, (only-if (not (prime? p)) Prime 0 i refl, (only-if (leb p before) Order 0 i refl, each-entry p (suc i) ps es)))
+
+only-sizes : (k l : ℕ) → Only (list-sizes most-factors k l)
+only-sizes k l = only-if ((not (eqb k l) || eqb k 0) || ltb most-factors k) Factors 0 0 refl
 
 only-factors : (M : Factored) → Only (factors (M .modulus) (M .primes) (M .exponents))
 unfolding factors
-only-factors M = only-if (not (factor-list? (M .modulus) (M .primes) (M .exponents))) Factors 0 0 tt
+only-factors M =
+    let ps = M .primes in
+    let es = M .exponents in
+    let product = only-if (not (eqb (powers ps es) (M .modulus))) Product 0 0 refl in
+    only-first (factors-order (M .modulus) ps es) (only-sizes (length ps) (length es), each-append (entries-order 0 0 ps es) _ (each-entry 0 0 ps es) (product, tt))
 
 only-entries : (M : Factored) (ring : ℕ) (a : List ℕ) → Only (coefficient (M .modulus) ring a)
-only-entries M ring a = only-if (ltb (first-high (M .modulus) a) (length a)) Coefficient ring (first-high (M .modulus) a) tt
+only-entries M ring a = only-if (ltb (first-high (M .modulus) a) (length a)) Coefficient ring (first-high (M .modulus) a) refl
 
 only-order : (f : List ℕ) (readings : Option (List ℕ)) (M : Factored) → length f ≤ most-entries → Long (length f) readings → Only (first (listed-order f (ring-2 readings) M []))
 unfolding order
@@ -219,4 +221,4 @@ only-after Passed h (singular prime ghost) a b e = tt
 only-after Passed h (inverted inverse counts) a b e = tt
 
 pub never-printed : (s : List ℕ) (r : Refusal) → Comes s (refused r) → let k = refusal-row (r .case) .number in (k ≢ 2) × (k ≢ 3) × (k ≢ 7) × (k ≢ 8) × (k ≢ 9)
-never-printed s r e = numbers (r .case) (only-after (sheet-of s .verdict) (held s (sheet-of s)) (refused r) (only-verdict s) (only-held s) e)
+never-printed s r e = numbers (refusal-row (r .case) .number) (only-after (sheet-of s .verdict) (held s (sheet-of s)) (refused r) (only-verdict s) (only-held s) e)

@@ -19,10 +19,12 @@ use Rattle.pattern.specs.Contracts.{listed-order, invert-order, unmix-or
 
 module _ (f : List ℕ) (others : List (List ℕ)) (M : Factored) (rest : List Check) where
   pub granted : first (listed-order f others M rest) ≡ Passed → Granted f others M × (first rest ≡ Passed)
-  granted e = let t = legal f others (M .modulus) _ rest e in (record { legal = t .0; factors = factors-exactly (M .modulus) (M .primes) (M .exponents) .0 (t .1) }, t .2)
+  granted e =
+      let t = legal f others (M .modulus) _ rest e in
+      (record { legal = t .0; factors = factors-exactly (M .modulus) (M .primes) (M .exponents) (t .0 .low) (t .0 .high) .0 (t .1) }, t .2)
 
   pub grants : Granted f others M → first rest ≡ Passed → first (listed-order f others M rest) ≡ Passed
-  grants g e = order-passes f others (M .modulus) _ rest (g .legal) (factors-exactly (M .modulus) (M .primes) (M .exponents) .1 (g .factors)) e
+  grants g e = order-passes f others (M .modulus) _ rest (g .legal) (factors-exactly (M .modulus) (M .primes) (M .exponents) (g .legal .low) (g .legal .high) .1 (g .factors)) e
 
 -- Fewer rings.
 pub alone : {f : List ℕ} {others : List (List ℕ)} {M : Factored} → Granted f others M → Granted f [] M

@@ -10,7 +10,7 @@ use Rattle.sums.specs.Table.{at, table}
 use Rattle.ring.specs.Mix.{mix}
 use Rattle.ring.specs.One.{one}
 use Rattle.ring.proofs.Inverses.{inverse-unique, inverse-inverse}
-use Rattle.modular.specs.FactorTest.{undivided?, prime?, rising?, factor-list?}
+use Rattle.modular.specs.PrimeTest.{undivided?, prime?}
 use Rattle.answer.specs.First.{first}
 use Rattle.answer.specs.declared.Check.the-variants.{Passed}
 use Rattle.answer.specs.declared.Answer.{Answer}
@@ -61,7 +61,7 @@ fixed-ring-8 o₁ o₂ g h k = let e = ap (λ (l : List ℕ). at l 0) (fixed-rin
 
 -- "A call that refuses all input": this call is legal and the pattern has the inverse [5,6], so only Done fits.
 legal : first (invert-order pattern eight 2) ≡ Passed
-unfolding order first-high factors factor-list? rising? prime? undivided?
+unfolding order first-high factors prime? undivided?
 legal = refl
 
 pub refuses-all : (old : List ℕ) → length old ≡ 2 → (a : Answer) (new : List ℕ) → Inverts pattern eight old a new → a ≡ Done

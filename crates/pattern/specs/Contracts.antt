@@ -24,7 +24,7 @@ use Rattle.pattern.specs.Ghost.{Ghost}
 abbrev pub listed-order : (f : List ℕ) (others : List (List ℕ)) (M : Factored) (rest : List Check) → List Check
 listed-order f others M rest = ring-order f others (M .modulus) (factors (M .modulus) (M .primes) (M .exponents)) rest
 
--- ---- "Invert a pattern." Refusals 1, 2, 4, 5, 6, 7.
+-- ---- "Invert a pattern." Refusals 1, 2, 4, those of the factor list, 6, 7.
 
 abbrev pub invert-order : List ℕ → Factored → ℕ → List Check
 invert-order f M room = listed-order f [] M (checks.room (length f) room ∷ [])
@@ -38,7 +38,7 @@ pub record ShowsGhost (f : List ℕ) (m ring prime : ℕ) (new : List ℕ) : Typ
 pub record Inverts (f : List ℕ) (M : Factored) (old : List ℕ) (answer : Answer) (new : List ℕ) : Type 0 where
   pub meets : Meets (invert-order f M (length old)) (Inverse (length f) (M .modulus) f) (ShowsGhost f (M .modulus)) old answer new
 
--- ---- "Unmix: pattern and readings give the counts." Refusals 1 to 7.
+-- ---- "Unmix: pattern and readings give the counts." Refusals 1 to 4, those of the factor list, 6, 7.
 
 abbrev pub unmix-order : Sent → Factored → ℕ → List Check
 unmix-order s M room = listed-order (s .pattern) (s .readings ∷ []) M (checks.room (entries s) room ∷ [])
@@ -52,7 +52,8 @@ pub record LeavesOutput (s : Sent) (m : ℕ) (old : List ℕ) (ring prime : ℕ)
 pub record Unmixes (s : Sent) (M : Factored) (old : List ℕ) (answer : Answer) (new : List ℕ) : Type 0 where
   pub meets : Meets (unmix-order s M (length old)) (Unmixed (M .modulus) s) (LeavesOutput s (M .modulus) old) old answer new
 
--- ---- "Same feeding: two patterns, each followed by its readings, one n, one m .. No output buffer." Refusals 1 to 6. Beside the answer stands whether yes.
+-- ---- "Same feeding: two patterns, each followed by its readings, one n, one m .. No output buffer." Refusals 1 to 4, those of the factor list, 6. Beside the
+-- answer stands whether yes.
 
 abbrev pub same-order : Sent → Sent → Factored → List Check
 same-order s₁ s₂ M = listed-order (s₁ .pattern) (s₁ .readings ∷ s₂ .pattern ∷ s₂ .readings ∷ []) M []

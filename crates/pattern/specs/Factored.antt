@@ -1,5 +1,5 @@
 -- A modulus with what is lent as its factor list: "a list of primes .. and a list of exponents" (document 01, Ring, pattern, readings). Whether it is
--- the factor list is for check 5 to say.
+-- the factor list is for its checks to say.
 use Prim.Native.Nat.{ℕ}
 use mathlib.Core.List.{List}
 

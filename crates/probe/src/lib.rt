@@ -1,19 +1,23 @@
 // Numbers and polynomials modulo p for the comparison and the benchmark: each function asks nothing, and answers "refused" where the one behind it
 // asks for more.
+use answer::Answer;
+use answer::Check;
+use answer::Reply;
+use answer::reply_of;
 use euclid::Outcome;
 use euclid::euclid;
+use factors::check_factors;
 use limits::MOST_ENTRIES;
 use limits::MOST_MODULUS;
-use modular::factor::factor_fault;
 use modular::inverse::Found;
 use modular::inverse::inverse;
 use modular::power::rounds;
 use modular::prime::is_prime;
 ghost use mathlib.Core.Path.{_≡_};
 ghost use Rattle.modular.specs.Prime.{TellsPrime};
-ghost use Rattle.modular.specs.FactorList.{FactorList};
-ghost use Rattle.modular.specs.FactorFault.{Fault};
 ghost use Rattle.modular.specs.Rounds.{Rounds};
+ghost use Rattle.answer.specs.Reply.{check-reply};
+ghost use Rattle.checks.specs.Factors.{factors};
 ghost use Rattle.probe.specs.Takes.{AllBelow, Takes, Tells};
 ghost use Rattle.probe.specs.Number.{TellsInverse};
 ghost use Rattle.probe.specs.Solution.{solution, TellsSolution};
@@ -31,11 +35,15 @@ pub extern "C" fn probe_is_prime(p: u32) -> bool
     is_prime(p)
 }
 
+// What the check of a factor list finds, in numbers.
 #[no_mangle]
-pub extern "C" fn probe_factor_fault(primes: &[u32], exponents: &[u8], m: u32) -> bool
-    ensures { λ r. ⌜ Fault (FactorList m (now (primes .entry)) (now (exponents .entry))) r ⌝ }
+pub extern "C" fn probe_factors(primes: &[u32], exponents: &[u8], m: u32) -> Reply
+    ensures { λ r. ⌜ r ≡ check-reply (factors m (now (primes .entry)) (now (exponents .entry))) ⌝ }
 {
-    factor_fault(primes, exponents, m)
+    match check_factors(primes, exponents, m) {
+        Check::Passed => reply_of(Answer::Done),
+        Check::Refused(refusal) => reply_of(Answer::Refused(refusal)),
+    }
 }
 
 // The inverse, or the greatest common divisor.

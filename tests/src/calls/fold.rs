@@ -10,7 +10,7 @@ use crate::random::Random;
 pub const CALL: Call = Call {
     name: "fold",
     rings: 1,
-    gives: &[Empty, Large, Modulus, Coefficient, Divisor],
+    gives: &[&[Empty, Large, Modulus, Coefficient, Divisor]],
     patterns: &[],
     complete,
     ask,

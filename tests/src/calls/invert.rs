@@ -1,17 +1,17 @@
 use super::Call;
 use crate::case::{Answer, Case};
 use crate::circulant;
-use crate::door::{Reply, Verdict, DONE};
+use crate::door::{Reply, Verdict};
 use crate::draw;
 use crate::factors::List;
-use crate::figures::{limits, worked, Figure};
+use crate::figures::{limits, lists, worked, Figure};
 use crate::lent::Loan;
-use crate::numbers::{singular, Number::*};
+use crate::numbers::{singular, Number::*, OF_A_LIST};
 
 pub const CALL: Call = Call {
     name: "invert",
     rings: 1,
-    gives: &[Empty, Large, Modulus, Factors, Coefficient, Room, Singular],
+    gives: &[&[Empty, Large, Modulus], &OF_A_LIST, &[Coefficient, Room, Singular]],
     patterns: &[0],
     complete: draw::output,
     ask,
@@ -73,15 +73,11 @@ pub fn of(f: Vec<u32>, m: u32) -> Case {
 }
 
 fn figures() -> Vec<Figure> {
-    let mut figures = limits(of);
+    let mut figures = [limits(of), lists(of)].concat();
     figures.extend(inverses().map(|(m, f, g)| worked(of(f, m), g)));
     figures.extend(ghosts().map(|(m, f, p, ghost)| {
         let told = singular(1, p).into();
         (of(f, m), told, Some(ghost))
-    }));
-    figures.extend(lists().map(|(primes, exponents, reply)| {
-        let twelve = of(vec![5, 0, 0], 12);
-        (Case { primes, exponents, ..twelve }, reply.into(), None)
     }));
     // 7 comes before 9.
     figures.push((Case { out: vec![7], ..of(vec![1, 1], 10) }, Room.bare().into(), Some(vec![7])));
@@ -112,23 +108,6 @@ pub fn ghosts() -> impl Iterator<Item = (u32, Vec<u32>, u32, Vec<u32>)> {
         (1_000, vec![3, 2, 0], 5, vec![200, 200, 200]),
         (1_000, vec![0], 2, vec![500]),
         (1_000, vec![0, 0, 0], 2, vec![500, 0, 0]),
-    ]
-    .into_iter()
-}
-
-/// Lists beside m 12.
-fn lists() -> impl Iterator<Item = (Vec<u32>, Vec<u8>, Reply)> {
-    [
-        (vec![2, 3], vec![2, 1], DONE),
-        (vec![4, 3], vec![1, 1], Factors.bare()),
-        (vec![3, 4], vec![1, 1], Factors.bare()),
-        (vec![3, 2], vec![1, 2], Factors.bare()),
-        (vec![2, 3], vec![255, 1], Factors.bare()),
-        (vec![2, 3], vec![2], Factors.bare()),
-        (vec![2, 3], vec![2, 1, 0], Factors.bare()),
-        (vec![2, 3, 5], vec![2, 1, 0], Factors.bare()),
-        (vec![2, 2, 3], vec![1, 1, 1], Factors.bare()),
-        (vec![], vec![], Factors.bare()),
     ]
     .into_iter()
 }

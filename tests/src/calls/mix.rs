@@ -9,7 +9,7 @@ use crate::numbers::Number::*;
 pub const CALL: Call = Call {
     name: "mix",
     rings: 2,
-    gives: &[Empty, Large, Mismatch, Modulus, Coefficient, Room],
+    gives: &[&[Empty, Large, Mismatch, Modulus, Coefficient, Room]],
     patterns: &[],
     complete: draw::output,
     ask,

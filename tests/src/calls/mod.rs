@@ -1,4 +1,5 @@
-//! The calls. A new call is a new module with a `CALL`, and a line in `ALL`.
+//! The calls. A new call is a new module with a `CALL`, and a line in `ALL`; one that takes a factor
+//! list has a part in `lists` too.
 
 use crate::case::{Answer, Case};
 use crate::door::Verdict;
@@ -9,6 +10,7 @@ use crate::random::Random;
 
 mod fold;
 pub mod invert;
+pub mod lists;
 pub mod mix;
 mod reduce;
 pub mod same_feeding;
@@ -19,8 +21,8 @@ pub struct Call {
     pub rings: usize,
     /// Which of the rings are patterns to be inverted. A call that has some has a factor list.
     pub patterns: &'static [usize],
-    /// Its refusals, in any order.
-    pub gives: &'static [Number],
+    /// Its refusals by groups, in any order.
+    pub gives: &'static [&'static [Number]],
     /// Draws what lies beyond rings and modulus, with the faults asked for.
     pub complete: fn(&mut Case, &[Number], &mut Random),
     /// Asks the C door.
@@ -31,7 +33,7 @@ pub struct Call {
 }
 
 impl Call {
-    /// Its refusals, in the order of document 01.
+    /// Its refusals, in their order.
     pub fn order(&self) -> impl Iterator<Item = Number> {
         in_order(self.gives)
     }

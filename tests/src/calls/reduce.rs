@@ -10,7 +10,7 @@ use crate::random::Random;
 pub const CALL: Call = Call {
     name: "reduce",
     rings: 1,
-    gives: &[Empty, Large, Modulus, Coefficient, Room, Divisor],
+    gives: &[&[Empty, Large, Modulus, Coefficient, Room, Divisor]],
     patterns: &[],
     complete,
     ask,

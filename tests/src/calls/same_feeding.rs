@@ -4,15 +4,15 @@ use crate::case::{Answer, Case};
 use crate::circulant::{counts, ghost};
 use crate::door::{Verdict, DONE};
 use crate::factors::List;
-use crate::figures::{limits, Figure};
+use crate::figures::{limits, lists, Figure};
 use crate::lent::Loan;
-use crate::numbers::{singular, Number, Number::*};
+use crate::numbers::{singular, Number, Number::*, OF_A_LIST};
 use crate::random::Random;
 
 pub const CALL: Call = Call {
     name: "same feeding",
     rings: 4,
-    gives: &[Empty, Large, Mismatch, Modulus, Factors, Coefficient, Singular],
+    gives: &[&[Empty, Large, Mismatch, Modulus], &OF_A_LIST, &[Coefficient, Singular]],
     patterns: &[0, 2],
     complete,
     ask,
@@ -118,7 +118,8 @@ pub fn of(rings: [&[u32]; 4], m: u32) -> Case {
 }
 
 fn figures() -> Vec<Figure> {
-    let mut figures = limits(|ring, m| of([&ring; 4], m));
+    let alike = |ring: Vec<u32>, m| of([&ring; 4], m);
+    let mut figures = [limits(alike), lists(alike)].concat();
     for (_, verdict, _) in &mut figures {
         // Each is compared with itself.
         verdict.same = usize::from(verdict.reply == DONE);

@@ -5,15 +5,15 @@ use crate::circulant;
 use crate::door::{Reply, Verdict};
 use crate::draw;
 use crate::factors::List;
-use crate::figures::{limits, worked, Figure};
+use crate::figures::{limits, lists, worked, Figure};
 use crate::lent::Loan;
-use crate::numbers::{singular, Number, Number::*};
+use crate::numbers::{singular, Number, Number::*, OF_A_LIST};
 use crate::random::Random;
 
 pub const CALL: Call = Call {
     name: "unmix",
     rings: 2,
-    gives: &[Empty, Large, Mismatch, Modulus, Factors, Coefficient, Room, Singular],
+    gives: &[&[Empty, Large, Mismatch, Modulus], &OF_A_LIST, &[Coefficient, Room, Singular]],
     patterns: &[0],
     complete,
     ask,
@@ -84,7 +84,8 @@ pub fn of(f: Vec<u32>, y: Vec<u32>, m: u32) -> Case {
 }
 
 fn figures() -> Vec<Figure> {
-    let mut figures = limits(|ring, m| of(ring.clone(), ring, m));
+    let squared = |ring: Vec<u32>, m| of(ring.clone(), ring, m);
+    let mut figures = [limits(squared), lists(squared)].concat();
     figures.push(worked(of(vec![1, 2, 0], vec![1, 2, 5], 10), vec![1, 0, 5]));
     figures.push(worked(of(vec![1, 2], vec![1, 0], 8), vec![5, 6]));
     let dark = of(vec![1, 1], vec![2, 2], 10);

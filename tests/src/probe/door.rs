@@ -1,5 +1,7 @@
 //! The inner functions as probe.h declares them. Every buffer is lent with canaries.
 
+use crate::door::Reply;
+use crate::factors::List;
 use crate::lent::Lent;
 use crate::random::Random;
 
@@ -34,13 +36,13 @@ impl Outcome {
 extern "C" {
     fn probe_is_prime(p: u32) -> bool;
 
-    fn probe_factor_fault(
+    fn probe_factors(
         primes: *const u32,
         primes_len: usize,
         exponents: *const u8,
         exponents_len: usize,
         m: u32,
-    ) -> bool;
+    ) -> Reply;
 
     fn probe_inverse(y: u32, m: u32) -> Number;
 
@@ -61,21 +63,16 @@ pub fn rounds(k: u32) -> u32 {
     unsafe { probe_rounds(k) }
 }
 
-pub fn factor_fault(
-    primes: &[u32],
-    exponents: &[u8],
-    m: u32,
-    random: &mut Random,
-) -> Result<bool, String> {
-    let lent = (Lent::new(primes, random), Lent::new(exponents, random));
+pub fn factors(list: &List, random: &mut Random) -> Result<Reply, String> {
+    let lent = (Lent::new(&list.primes, random), Lent::new(&list.exponents, random));
     let before = lent.clone();
     let (ps, es) = (lent.0.content(), lent.1.content());
     // Each pointer goes with its slice's length.
-    let fault = unsafe { probe_factor_fault(ps.as_ptr(), ps.len(), es.as_ptr(), es.len(), m) };
+    let reply = unsafe { probe_factors(ps.as_ptr(), ps.len(), es.as_ptr(), es.len(), list.m) };
     if lent != before {
         return Err("an input was changed".into());
     }
-    Ok(fault)
+    Ok(reply)
 }
 
 /// The outcome, and the whole content of the output afterwards.

@@ -10,4 +10,5 @@ mod inverse;
 mod prime;
 mod rounds;
 
-pub const ALL: [Part; 5] = [prime::PART, factors::PART, inverse::PART, rounds::PART, euclid::PART];
+pub const ALL: [Part; 6] =
+    [prime::PART, factors::PART, factors::LISTS, inverse::PART, rounds::PART, euclid::PART];

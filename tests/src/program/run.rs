@@ -2,14 +2,14 @@
 
 use crate::sheets::{describe, difference};
 use std::fs::{self, File};
-use std::io::{self, Read, Seek, Write};
+use std::io::{self, ErrorKind, Read, Seek, Write};
 use std::os::fd::OwnedFd;
 use std::os::unix::net::UnixDatagram;
 use std::os::unix::process::ExitStatusExt;
 use std::process::{Child, ChildStdin, Command, ExitStatus, Stdio};
 use std::sync::atomic::{AtomicUsize, Ordering};
 use std::thread;
-use std::time::{Duration, Instant};
+use std::time::Duration;
 
 /// The program takes at most so many bytes.
 pub const TAKEN: usize = 8_250;
@@ -17,7 +17,10 @@ pub const TAKEN: usize = 8_250;
 /// What the environment names in place of the program, with words for it.
 const VARIABLE: &str = "UNMIX";
 const PROGRAM: &str = concat!(env!("CARGO_MANIFEST_DIR"), "/../target/bin/unmix");
-const PATIENCE: Duration = Duration::from_secs(20);
+/// So often the program is asked whether it has ended, and its input whether it takes a piece. The
+/// asks are counted and no clock is read: on a machine that stands still for a while, so do they.
+const ASKS: usize = 200_000;
+const BETWEEN_ASKS: Duration = Duration::from_micros(100);
 const SIGPIPE: i32 = 13;
 
 #[derive(Debug)]
@@ -142,10 +145,13 @@ impl Run {
     /// A read that gets an empty one sees the end of its input.
     fn by_datagrams(&self, piece: usize) -> io::Result<Child> {
         let (here, there) = UnixDatagram::pair()?;
-        here.set_write_timeout(Some(PATIENCE))?;
+        here.set_nonblocking(true)?;
         let child = self.spawn(OwnedFd::from(there))?;
-        let mut pieces = self.sheet.chunks(piece).chain([&[][..]]);
-        while pieces.next().is_some_and(|bytes| here.send(bytes).is_ok()) {}
+        for bytes in self.sheet.chunks(piece).chain([&[][..]]) {
+            if patiently(|| sent(&here, bytes))? != Some(true) {
+                break;
+            }
+        }
         Ok(child)
     }
 
@@ -185,15 +191,32 @@ fn program() -> Vec<String> {
 
 /// Waits for the program's end, but not for ever.
 fn end(child: &mut Child) -> io::Result<Option<ExitStatus>> {
-    let started = Instant::now();
-    while started.elapsed() < PATIENCE {
-        if let Some(status) = child.try_wait()? {
-            return Ok(Some(status));
-        }
-        thread::sleep(Duration::from_micros(100));
+    let status = patiently(|| child.try_wait())?;
+    if status.is_none() {
+        child.kill()?;
+        child.wait()?;
     }
-    child.kill()?;
-    child.wait()?;
+    Ok(status)
+}
+
+/// Whether the piece was sent, which it cannot be to a program that has ended. None if it has to wait.
+fn sent(socket: &UnixDatagram, piece: &[u8]) -> io::Result<Option<bool>> {
+    match socket.send(piece).map_err(|error| (error.kind(), error)) {
+        Ok(_) => Ok(Some(true)),
+        Err((ErrorKind::WouldBlock | ErrorKind::Interrupted, _)) => Ok(None),
+        Err((ErrorKind::ConnectionRefused | ErrorKind::NotConnected, _)) => Ok(Some(false)),
+        Err((_, error)) => Err(error),
+    }
+}
+
+/// What asking gives at last, or None if it never does.
+fn patiently<T>(mut ask: impl FnMut() -> io::Result<Option<T>>) -> io::Result<Option<T>> {
+    for _ in 0..ASKS {
+        if let Some(answer) = ask()? {
+            return Ok(Some(answer));
+        }
+        thread::sleep(BETWEEN_ASKS);
+    }
     Ok(None)
 }
 

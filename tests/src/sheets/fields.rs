@@ -143,8 +143,12 @@ pub struct Refusal<'a> {
 }
 
 impl Refusal<'_> {
+    pub fn number(&self) -> Number {
+        self.broken[0].number()
+    }
+
     pub fn reply(&self) -> Reply {
-        self.broken[0].number().reply(0, self.at, 0)
+        self.number().at(self.at)
     }
 }
 

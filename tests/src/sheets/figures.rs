@@ -4,6 +4,8 @@ use super::draft;
 use super::text::{printed, Finding};
 use crate::calls::{invert, unmix};
 use crate::case::Case;
+use crate::factors;
+use crate::patterns::ones;
 
 pub type Figure = (Vec<u8>, String);
 
@@ -14,7 +16,7 @@ const WHOLE: &str = "01 0001 01, 02 0004 0000000A, 03 000A 00000002 01 00000005 
 pub fn figures() -> Vec<Figure> {
     let sheets = sheets().into_iter().map(|(hex, text)| (bytes(hex), text.to_string()));
     let cases = cases().into_iter().map(|(case, text)| (sheet_of(&case), text.to_string()));
-    sheets.chain(cases).chain(longer()).chain(patterns()).collect()
+    sheets.chain(cases).chain(longer()).chain(patterns()).chain(lists()).collect()
 }
 
 fn bytes(hex: &str) -> Vec<u8> {
@@ -57,7 +59,7 @@ fn sheets() -> [(&'static str, &'static str); 20] {
     ]
 }
 
-fn cases() -> [(Case, &'static str); 13] {
+fn cases() -> [(Case, &'static str); 15] {
     let twelve = |primes, exponents| Case { primes, exponents, ..invert::of(vec![5, 0, 0], 12) };
     [
         (invert::of(vec![0], 0), "refused 4\n"),
@@ -67,9 +69,11 @@ fn cases() -> [(Case, &'static str); 13] {
         (invert::of(vec![1], 1_000_001), "refused 4\n"),
         (invert::of(vec![0, 0, 10], 10), "refused 6 ring 1 at 2\n"),
         (twelve(vec![2, 3], vec![2, 1]), "ring 3 modulus 12\ninverse 5 0 0\n"),
-        (twelve(vec![4, 3], vec![1, 1]), "refused 5\n"),
-        (twelve(vec![3, 2], vec![1, 2]), "refused 5\n"),
-        (twelve(vec![2, 3], vec![255, 1]), "refused 5\n"),
+        (twelve(vec![4, 3], vec![1, 1]), "refused 11 at 0\n"),
+        (twelve(vec![3, 2], vec![1, 2]), "refused 12 at 1\n"),
+        (twelve(vec![2, 3], vec![255, 1]), "refused 13\n"),
+        (twelve(vec![2, 3, 5], vec![2, 1, 0]), "refused 10 at 2\n"),
+        (twelve(vec![], vec![]), "refused 5\n"),
         // No counts, and bad readings are refused before anything is inverted.
         (unmix::of(vec![1, 1], vec![2, 2], 10), "ring 2 modulus 10\nsingular 2 ghost 5 5\n"),
         (unmix::of(vec![1, 1], vec![2, 10], 10), "refused 6 ring 2 at 1\n"),
@@ -93,4 +97,16 @@ fn patterns() -> impl Iterator<Item = Figure> {
     let ghosts =
         invert::ghosts().map(|(m, f, p, ghost)| (invert::of(f, m), Finding::Singular(p, ghost)));
     inverses.chain(ghosts).map(|(case, finding)| figure(&case, &finding))
+}
+
+fn lists() -> impl Iterator<Item = Figure> {
+    let lists = factors::figures::figures().into_iter().filter(|(list, _)| list.fits_a_sheet());
+    lists.map(|(list, refusal)| {
+        let one = ones(3, 1, 1);
+        let finding = match refusal {
+            Some((number, place)) => Finding::Refused(vec![(number, number.at(place))]),
+            None => Finding::Inverse(one.clone(), None),
+        };
+        figure(&invert::of(one, list.m).with_list(list), &finding)
+    })
 }

@@ -18,10 +18,11 @@ mod faults;
 mod fields;
 pub mod figures;
 mod kinds;
+mod lists;
 pub mod long;
 pub mod text;
 
-pub const ALL: [Part; 3] = [DRAWN, every::PART, long::PART];
+pub const ALL: [Part; 4] = [DRAWN, lists::PART, every::PART, long::PART];
 
 const DRAWN: Part = Part { name: "sheets", kinds: kinds::KINDS, compare };
 const SHEETS: usize = 600_000;

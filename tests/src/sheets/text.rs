@@ -1,15 +1,15 @@
-//! What the program prints for a sheet, as document 01 tells it.
+//! What the program prints for a sheet, as document 01 and document 02's first request tell it.
 
 use super::fields::{self, number, Parts, Refusal};
 use crate::case::Case;
 use crate::circulant;
 use crate::door::Reply;
-use crate::numbers::Number;
+use crate::numbers::{Number, Told, OF_A_LIST};
 use crate::refusals;
 
 /// What a sheet holds can meet these: it is never LARGE, and its rings never MISMATCH.
-pub const GIVEN: &[Number] =
-    &[Number::Empty, Number::Modulus, Number::Factors, Number::Coefficient, Number::Singular];
+const GIVEN: &[&[Number]] =
+    &[&[Number::Empty, Number::Modulus], &OF_A_LIST, &[Number::Coefficient]];
 
 /// Elimination takes too long for a pattern with more entries.
 const MOST_ELIMINATED: usize = 64;
@@ -47,10 +47,7 @@ impl Outcome<'_> {
     pub fn text(&self) -> Option<String> {
         match self {
             Outcome::Read(case, finding) => printed(case, finding),
-            Outcome::Unreadable(refusal) => {
-                let Reply { number, place, .. } = refusal.reply();
-                Some(format!("refused {number} at {place}\n"))
-            }
+            Outcome::Unreadable(refusal) => Some(refused(refusal.number(), &refusal.reply())),
         }
     }
 }
@@ -89,7 +86,7 @@ fn find(case: &Case) -> Finding {
 pub fn printed(case: &Case, finding: &Finding) -> Option<String> {
     let head = format!("ring {} modulus {}\n", case.n(), case.m);
     match finding {
-        Finding::Refused(refusals) => Some(refused(&refusals[0].1)),
+        Finding::Refused(refusals) => Some(refused(refusals[0].0, &refusals[0].1)),
         Finding::Singular(prime, ghost) => {
             Some(head + &line(&format!("singular {prime} ghost"), ghost))
         }
@@ -101,13 +98,12 @@ pub fn printed(case: &Case, finding: &Finding) -> Option<String> {
     }
 }
 
-fn refused(reply: &Reply) -> String {
-    let Reply { number, ring, place, .. } = reply;
-    if *number == Number::Coefficient as u32 {
-        format!("refused {number} ring {ring} at {place}\n")
-    } else {
-        format!("refused {number}\n")
-    }
+/// A refusal with what it tells: "for 6 then `ring r at k`", and a place alone after `at`.
+fn refused(number: Number, reply: &Reply) -> String {
+    let tells = |told| number.tells().contains(&told);
+    let ring = if tells(Told::Ring) { format!(" ring {}", reply.ring) } else { String::new() };
+    let place = if tells(Told::Place) { format!(" at {}", reply.place) } else { String::new() };
+    format!("refused {}{ring}{place}\n", reply.number)
 }
 
 fn line(word: &str, entries: &[u32]) -> String {

@@ -1,17 +1,16 @@
 -- `calls::check_fold` meets its contract: the checks of the ring, then divisor. Assumes nothing.
+use mathlib.Core.Path.{refl}
 use mathlib.Core.List.{[]}
-use lib.ListN.{length}
-use Rattle.checks.specs.Checks.{divisor}
-use Rattle.checks.specs.Order.{no-list}
-use Rattle.checks.proofs.Orders.{ring-one}
+use Rattle.checks.proofs.Orders.{one-more}
 use borrow.Author.Needs.{needs}
 use Rattle.calls.proofs.check_fold.Statement.{statement}
 use Rattle.calls.proofs.check_fold.Tie as tie
 
 returns : tie.Need-returns
 returns c =
-    let given = c .before .before .before .before .args in
-    cc (ring-one (given .a .now) [] (given .m) no-list (divisor 1 (length (given .a .now)) (given .onto)))
+    let ring = c .before .before in
+    let given = ring .before .before .args in
+    one-more (given .a .now) [] (given .m) (c .or .ensures) (ring .check-ring .ensures) refl (c .before .check-divisor .ensures)
 
 pub check-fold-spec : {M : Type 1} → statement M
 check-fold-spec =

@@ -1,18 +1,17 @@
 -- `feeding::check_unmix` meets its contract: the checks of pattern and readings with the factor list's in its place, then room. Assumes nothing.
 use mathlib.Core.List.{[], _∷_}
-use lib.ListN.{length}
-use Rattle.checks.specs.Checks.{room}
-use Rattle.checks.specs.Factors.{factors}
-use Rattle.checks.proofs.Orders.{ring-one}
+use Rattle.checks.proofs.Orders.{one-more}
 use borrow.Author.Needs.{needs}
 use Rattle.feeding.proofs.check_unmix.Statement.{statement}
 use Rattle.feeding.proofs.check_unmix.Tie as tie
 
 returns : tie.Need-returns
 returns c =
-    let lent = c .before .before .before .before in
+    let rings = c .before .before in
+    let listed = rings .before in
+    let lent = listed .before in
     let given = lent .before .before .before .before .args in
-    cc (ring-one (given .f .now) (given .y .now ∷ []) (given .m) (factors (given .m) (given .primes .now) (given .exponents .now)) (room (length (given .f .now)) (given .room)))
+    one-more (given .f .now) (given .y .now ∷ []) (given .m) (c .or .ensures) (rings .check-rings .ensures) (listed .check-factors .ensures) (c .before .check-room .ensures)
 
 pub check-unmix-spec : {M : Type 1} → statement M
 check-unmix-spec =

@@ -1,18 +1,16 @@
 -- `invert::check_invert` meets its contract: the checks of the pattern with the factor list's in its place, then room. Assumes nothing.
 use mathlib.Core.List.{[]}
-use lib.ListN.{length}
-use Rattle.checks.specs.Checks.{room}
-use Rattle.checks.specs.Factors.{factors}
-use Rattle.checks.proofs.Orders.{ring-one}
+use Rattle.checks.proofs.Orders.{one-more}
 use borrow.Author.Needs.{needs}
 use Rattle.invert.proofs.check_invert.Statement.{statement}
 use Rattle.invert.proofs.check_invert.Tie as tie
 
 returns : tie.Need-returns
 returns c =
-    let listed = c .before .before .before in
+    let fits = c .before .before in
+    let listed = fits .before in
     let given = listed .before .before .before .before .args in
-    cc (ring-one (given .f .now) [] (given .m) (factors (given .m) (given .primes .now) (given .exponents .now)) (room (length (given .f .now)) (given .room)))
+    one-more (given .f .now) [] (given .m) (c .or .ensures) (c .before .check-ring .ensures) (listed .check-factors .ensures) (fits .check-room .ensures)
 
 pub check-invert-spec : {M : Type 1} → statement M
 check-invert-spec =

@@ -4,7 +4,7 @@ use Prim.Native.Nat.{_-_, _≤_}
 use mathlib.Core.Path.{_≡_}
 use lib.ListN.{length}
 use Rattle.modular.proofs.Factors.{rising-same}
-use Rattle.modular.proofs.Faults.{left-split, Running, running-start, running-next, running-end}
+use Rattle.modular.proofs.Running.{left-split, Running, running-start, running-next, running-end}
 use borrow.Author.Needs.{needs}
 use native.Mathlib.Omega.{arith}
 use Rattle.modular.proofs.factor.product.Statement.{statement}

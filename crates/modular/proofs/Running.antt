@@ -1,26 +1,20 @@
--- The factor check, entry by entry: what is left of both lists is a factor list's rest exactly where the whole is, and the powers so far times those of the rest are the product.
--- Assumes nothing.
+-- The powers of a factor list multiplied entry by entry: what is left of both lists rises from the prime before, and the powers so far times those of the rest
+-- are the product. Assumes nothing.
 use Prim.Native.Nat.{ℕ, _+_, _*_, _^_, _≤_, _<_}
 use mathlib.Core.Path.{_≡_, sym, ap, _∙_, subst}
-use mathlib.Core.Bool.{true, false, true≢false, false≢true}
 use mathlib.Core.List.{List}
 use native.Mathlib.Omega.{arith}
 use native.Mathlib.Decide.{decLe}
 use native.Mathlib.Numerals.{add-one}
 use native.Mathlib.Nat.{mul-one, mul-assoc, one-le-pow, le-mul-of-pos-right}
+use borrow.Author.Tests.{ne-eqb}
+use lib.Dec.{eqb}
 use lib.ListN.{length, drop}
 use lib.Seq.{drop-cons, drop-length}
 use Rattle.sums.specs.Table.{at}
 use Rattle.modular.specs.FactorList.{FactorEntry, Rising, powers}
-use Rattle.modular.specs.FactorFault.{Fault, Capped}
+use Rattle.modular.specs.Capped.{Capped}
 use Rattle.modular.proofs.Factors.{powers-some}
-
--- The two answers.
-pub fault-yes : {A : Type 0} → (A → ⊥) → Fault A true
-fault-yes n = record { fault = λ _. n; fine = λ e. absurd (true≢false e) }
-
-pub fault-no : {A : Type 0} → A → Fault A false
-fault-no a = record { fault = λ e. absurd (false≢true e); fine = λ _. a }
 
 -- What is left of both lists.
 abbrev pub Left : ℕ → List ℕ → List ℕ → ℕ → Type 0
@@ -33,17 +27,11 @@ module _ (ps es : List ℕ) (i : ℕ) (hp : i < length ps) (he : i < length es) 
   pub left-split : {before : ℕ} → Left before ps es i → FactorEntry before (at ps i) (at es i) × Left (at ps i) ps es (i + 1)
   left-split {before} l = subst (λ (T : Type 0). T) (first before) l
 
-  pub left-join : {before : ℕ} → FactorEntry before (at ps i) (at es i) → Left (at ps i) ps es (i + 1) → Left before ps es i
-  left-join {before} e l = subst (λ (T : Type 0). T) (sym (first before)) (e, l)
-
   powers-first : powers (drop i ps) (drop i es) ≡ at ps i ^ at es i * powers (drop (i + 1) ps) (drop (i + 1) es)
   powers-first = rw (add-one i, drop-cons ps i 0, drop-cons es i 0)
 
 -- After i entries.
 module _ (ps es : List ℕ) (i : ℕ) (hp : i ≡ length ps) (he : i ≡ length es) where
-  pub left-none : (before : ℕ) → Left before ps es i
-  left-none before = rw (hp, drop-length ps, sym hp, he, drop-length es) tt
-
   powers-none : powers (drop i ps) (drop i es) ≡ 1
   powers-none = rw (hp, drop-length ps)
 
@@ -89,9 +77,9 @@ running-next m ps es i x r hp he c v = record {
     whole : x ≤ m → powers ps es ≡ x * p ^ e * rest
     whole h = v .same h ∙ ap (λ (z : ℕ). x * z) (powers-first ps es i hp he) ∙ sym (mul-assoc x (p ^ e) rest)
 
--- What is equal to m, or above m, as the product is: it is m exactly where the product is.
-pub capped-equal : {m x r : ℕ} → Capped m x r → x ≡ m → r ≡ m
-capped-equal {m} {x} {r} c e = elim (decLe r m) [ yes l ↦ c .same l ∙ e | no l ↦ omega (arith, c .over (omega arith)) ]
-
-pub capped-same : {m x r : ℕ} → Capped m x r → r ≡ m → x ≡ m
-capped-same c e = sym (c .same (omega arith)) ∙ e
+-- What is the product, or above m as the product is, is m exactly where the product is.
+pub capped-test : {m x r whole : ℕ} → Capped m x r → whole ≡ m → eqb r whole ≡ eqb x m
+capped-test {m} {x} {r} {whole} c w = elim (decLe r m) [
+  | yes l ↦ rw (w, c .same l)
+  | no l ↦ ne-eqb r whole (λ e. omega arith) ∙ sym (ne-eqb x m (λ e. omega (arith, c .over (omega arith))))
+]

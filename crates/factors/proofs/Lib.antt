@@ -1,0 +1,2 @@
+-- The entries that are left after the first i.
+pub mod Entries
