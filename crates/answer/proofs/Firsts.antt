@@ -2,6 +2,7 @@
 -- Each by cases of the first check. Assumes nothing.
 use Prim.Native.Nat.{ℕ}
 use mathlib.Core.Path.{_≡_, refl, sym, ap, _∙_}
+use mathlib.Core.Logic.{_⊎_, inl, inr}
 use mathlib.Core.Bool.{Bool, true, false, _||_}
 use mathlib.Core.List.{List, [], _∷_, _++_}
 use native.Mathlib.Omega.{arith}
@@ -23,6 +24,10 @@ or-passed (Refused r) = refl
 pub first-append : (k l : List Check) → first (k ++ l) ≡ or (first k) (first l)
 first-append [] l = refl
 first-append (c ∷ k) l = rw (first-append k l) (sym (or-assoc c (first k) (first l)))
+
+-- One check more, at the end.
+pub first-last : (k : List Check) (c : Check) → first (k ++ (c ∷ [])) ≡ or (first k) c
+first-last k c = first-append k (c ∷ []) ∙ ap (or (first k)) (or-passed c)
 
 pub or-both : {r a b c d : Check} → r ≡ or a b → a ≡ c → b ≡ d → r ≡ or c d
 or-both {a = a} {d = d} e h k = e ∙ ap (or a) k ∙ ap (λ (x : Check). or x d) h
@@ -50,9 +55,18 @@ cut k l e = both (first k) (first l) (sym (first-append k l) ∙ e)
 pub passed-refused : {c : Check} {r : Refusal} → c ≡ Passed → c ≡ Refused r → ⊥
 passed-refused e d = let z : _≡_ {A = ℕ} 0 1 = cc in omega arith
 
+-- Of two, the first refuses, or passes and the second does.
+pub or-refused : (c d : Check) (r : Refusal) → or c d ≡ Refused r → (c ≡ Refused r) ⊎ ((c ≡ Passed) × (d ≡ Refused r))
+or-refused Passed d r e = inr (refl, e)
+or-refused (Refused q) d r e = inl e
+
 pub passes : (b : Bool) (c : Case) (ring place : ℕ) → refuse-if b c ring place ≡ Passed → b ≡ false
 passes true c ring place e = absurd (let z : _≡_ {A = ℕ} 0 1 = cc in omega arith)
 passes false c ring place e = refl
+
+pub refuses : (b : Bool) (c : Case) (ring place : ℕ) (r : Refusal) → refuse-if b c ring place ≡ Refused r → (b ≡ true) × (record { case = c; ring = ring; place = place } ≡ r)
+refuses true c ring place r e = (refl, cc (e))
+refuses false c ring place r e = absurd (passed-refused refl e)
 
 pub neither : (a b : Bool) → (a || b) ≡ false → (a ≡ false) × (b ≡ false)
 neither true b e = absurd (let z : _≡_ {A = ℕ} 0 1 = cc in omega arith)

@@ -22,7 +22,7 @@ use Rattle.answer.specs.declared.Case.the-variants as case
 use Rattle.answer.specs.declared.Check.{Check}
 use Rattle.answer.specs.declared.Check.the-variants.{Passed, Refused}
 use Rattle.answer.specs.declared.Refusal.{Refusal}
-use Rattle.answer.proofs.Firsts.{first-append, or-passed, passed-refused}
+use Rattle.answer.proofs.Firsts.{first-last, or-refused, passed-refused, passes, refuses}
 use Rattle.checks.specs.Factors.{list-sizes, entries-order, product, factors}
 use Rattle.checks.specs.Blames.{Sized, BadSizes, Fault, BadEntry, BadProduct, Blames}
 use Rattle.checks.proofs.FactorCheck.{sized-exactly, entries-exactly}
@@ -30,17 +30,10 @@ use Rattle.checks.proofs.FactorCheck.{sized-exactly, entries-exactly}
 -- A refusal comes from a check, whose test then holds, or its test fails and it comes from what stands after.
 refused-by : (b : Bool) (k : Case) (ring place : ℕ) (next : Check) (r : Refusal) → or (refuse-if b k ring place) next ≡ Refused r
     → ((b ≡ true) × (record { case = k; ring = ring; place = place } ≡ r)) ⊎ ((b ≡ false) × (next ≡ Refused r))
-refused-by true k ring place next r e = inl (refl, cc (e))
-refused-by false k ring place next r e = inr (refl, e)
+refused-by b k ring place next r e = elim (or-refused (refuse-if b k ring place) next r e) [ inl h ↦ inl (refuses b k ring place r h) | inr (p, h) ↦ inr (passes b k ring place p, h) ]
 
 refused-case : (b : Bool) (k : Case) (ring place : ℕ) (r : Refusal) → refuse-if b k ring place ≡ Refused r → r .case ≡ k
-refused-case true k ring place r e = let q : record { case = k; ring = ring; place = place } ≡ r = cc (e) in sym (ap (λ (x : Refusal). x .case) q)
-refused-case false k ring place r e = absurd (passed-refused refl e)
-
--- Of two, the first refuses, or passes and the second does.
-or-refused : (c d : Check) (r : Refusal) → or c d ≡ Refused r → (c ≡ Refused r) ⊎ ((c ≡ Passed) × (d ≡ Refused r))
-or-refused Passed d r e = inr (refl, e)
-or-refused (Refused q) d r e = inl e
+refused-case b k ring place r e = sym (ap (λ (x : Refusal). x .case) (refuses b k ring place r e .1))
 
 -- ---- the entries from place i on, after the prime `before`
 
@@ -99,19 +92,19 @@ pub blames : (m : ℕ) (ps es : List ℕ) (r : Refusal) → factors m ps es ≡ 
 unfolding factors
 blames m ps es r h = elim (or-refused (list-sizes most-factors (length ps) (length es)) _ r h) [
   | inl k ↦ inl (bad-sizes k)
-  | inr (passed, k) ↦ inr (bad-list (sized-exactly ps es .0 passed) (or-refused (first (entries-order 0 0 ps es)) _ r (sym (first-append (entries-order 0 0 ps es) (product m ps es ∷ [])) ∙ k)))
+  | inr (passed, k) ↦ inr (bad-list (sized-exactly ps es .0 passed) (or-refused (first (entries-order 0 0 ps es)) (product m ps es) r (sym (first-last (entries-order 0 0 ps es) (product m ps es)) ∙ k)))
 ]
   where
     bad-sizes : list-sizes most-factors (length ps) (length es) ≡ Refused r → BadSizes ps es r
     bad-sizes k = record { case = refused-case ((not (eqb (length ps) (length es)) || eqb (length ps) 0) || ltb most-factors (length ps)) case.Factors 0 0 r k; unsized = λ s. passed-refused (sized-exactly ps es .1 s) k }
 
-    bad-list : Sized ps es → (first (entries-order 0 0 ps es) ≡ Refused r) ⊎ ((first (entries-order 0 0 ps es) ≡ Passed) × (or (product m ps es) Passed ≡ Refused r)) → BadEntry ps es r ⊎ BadProduct m ps es r
+    bad-list : Sized ps es → (first (entries-order 0 0 ps es) ≡ Refused r) ⊎ ((first (entries-order 0 0 ps es) ≡ Passed) × (product m ps es ≡ Refused r)) → BadEntry ps es r ⊎ BadProduct m ps es r
     bad-list s (inl k) =
         let f = from 0 0 ps es r k in
         let place : r .place ≡ f .offset = omega (arith, f .place) in
         inl (record { sized = s; inside = rw place (f .inside); right = λ i l. f .right i (omega arith); fault = rw place (f .fault) })
     bad-list s (inr (passed, k)) = inr (record {
-      case = refused-case (not (eqb (powers ps es) m)) case.Product 0 0 r (sym (or-passed (product m ps es)) ∙ k);
+      case = refused-case (not (eqb (powers ps es) m)) case.Product 0 0 r k;
       sized = s;
       rising = entries-exactly 0 0 ps es (s .same) .0 passed;
       product = λ e. passed-refused (rw (eq-eqb (powers ps es) m e)) k;

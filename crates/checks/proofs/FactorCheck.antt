@@ -23,7 +23,7 @@ use Rattle.answer.specs.declared.Case.{Case}
 use Rattle.answer.specs.declared.Case.the-variants.{Factors, Exponent, Prime, Order, Product}
 use Rattle.answer.specs.declared.Check.{Check}
 use Rattle.answer.specs.declared.Check.the-variants.{Passed}
-use Rattle.answer.proofs.Firsts.{both, cut, first-append, passes, neither}
+use Rattle.answer.proofs.Firsts.{first-last, both, cut, passes, neither}
 use Rattle.checks.specs.Factors.{list-sizes, entry-order, entries-order, product, factors}
 use Rattle.checks.specs.Blames.{Sized}
 
@@ -102,7 +102,7 @@ module _ (m : ℕ) (ps es : List ℕ) where
       let same = rising-same 0 ps es (l .rising) in
       let sizes = sized-exactly ps es .1 (record { same = same; some = some-entry ps es (omega (arith, l .product)); few = seven-entries high l }) in
       let entries = entries-exactly 0 0 ps es same .1 (l .rising) in
-      rw sizes (first-append (entries-order 0 0 ps es) (product m ps es ∷ []) ∙ rw (entries, eq-eqb (powers ps es) m (l .product)))
+      rw sizes (first-last (entries-order 0 0 ps es) (product m ps es) ∙ rw (entries, eq-eqb (powers ps es) m (l .product)))
 
   pub factors-exactly : least-modulus ≤ m → m ≤ most-modulus → (factors m ps es ≡ Passed) ↔ FactorList m ps es
   factors-exactly low high = (only-lists, lists-pass low high)

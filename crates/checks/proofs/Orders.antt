@@ -24,18 +24,13 @@ use Rattle.checks.specs.Order.{order, mismatches, coefficients, ring-siz
 use Rattle.checks.specs.Legal.{Rings, Legal}
 use Rattle.checks.proofs.FirstHigh.{high-before, high-at}
 
--- ---- an order with more behind it
+-- ---- an order with one check more
 
--- What is looked at after all that came before: one check more, and a second.
-pub order-one : (before sizes : List Check) (modulus factors : Check) (entries : List Check) (c : Check)
-    → or (first (order before sizes modulus factors entries [])) c ≡ first (order before sizes modulus factors entries (c ∷ []))
+-- What is looked at after all that came before.
+pub order-more : (before sizes : List Check) (modulus factors : Check) (entries rest : List Check) (c : Check)
+    → or (first (order before sizes modulus factors entries rest)) c ≡ first (order before sizes modulus factors entries (rest ++ (c ∷ [])))
 unfolding order
-order-one before sizes modulus factors entries c = simp (first-append, or-assoc, or-passed)
-
-pub order-two : (before sizes : List Check) (modulus factors : Check) (entries : List Check) (c d : Check)
-    → or (or (first (order before sizes modulus factors entries [])) c) d ≡ first (order before sizes modulus factors entries (c ∷ d ∷ []))
-unfolding order
-order-two before sizes modulus factors entries c d = simp (first-append, or-assoc, or-passed)
+order-more before sizes modulus factors entries rest c = simp (first-append, or-assoc, or-passed)
 
 -- ---- single checks
 
@@ -158,20 +153,12 @@ sizes-legal most a others e =
 modulus-legal : (least most m : ℕ) → modulus least most m ≡ Passed → (least ≤ m) × (m ≤ most)
 modulus-legal least most m e = let range = neither (ltb m least) (ltb most m) (passes _ _ 0 0 e) in (ltb-false m least (range .0), ltb-false most m (range .1))
 
--- ---- a call on rings: one check more, and two, as the code finds them; and what it has been given where no check refuses
+-- ---- a call on rings: one check more, as the code finds it; and what it has been given where no check refuses
 
--- In the factor list `listed` was found, in all up to 6 `found`, and `after` in what is looked at then.
-module _ (a : List ℕ) (others : List (List ℕ)) (m : ℕ) {listed factors found : Check} where
-  up-to-entries : found ≡ first (ring-order a others m listed []) → listed ≡ factors → found ≡ first (ring-order a others m factors [])
-  up-to-entries e list = e ∙ ap (λ x. first (ring-order a others m x [])) list
-
-  pub one-more : {after c r : Check} → r ≡ or found after → found ≡ first (ring-order a others m listed []) → listed ≡ factors → after ≡ c
-      → r ≡ first (ring-order a others m factors (c ∷ []))
-  one-more {c = c} e found list one = or-both e (up-to-entries found list) one ∙ order-one _ _ _ _ _ c
-
-  pub two-more : {after both last c d r : Check} → r ≡ or both last → both ≡ or found after → found ≡ first (ring-order a others m listed []) → listed ≡ factors → after ≡ c → last ≡ d
-      → r ≡ first (ring-order a others m factors (c ∷ d ∷ []))
-  two-more {c = c} {d = d} e e₁ found list one two = or-both e (or-both e₁ (up-to-entries found list) one) two ∙ order-two _ _ _ _ _ c d
+-- In the factor list `listed` was found, in all checks up to `rest` `found`, and `after` in the one behind them.
+pub one-more : (a : List ℕ) (others : List (List ℕ)) (m : ℕ) (rest : List Check) {listed factors found after c r : Check} → r ≡ or found after
+    → found ≡ first (ring-order a others m listed rest) → listed ≡ factors → after ≡ c → r ≡ first (ring-order a others m factors (rest ++ (c ∷ [])))
+one-more a others m rest {c = c} e found list last = or-both e (found ∙ ap (λ x. first (ring-order a others m x rest)) list) last ∙ order-more _ _ _ _ _ rest c
 
 module _ (a : List ℕ) (others : List (List ℕ)) (m : ℕ) (factors : Check) (rest : List Check) where
   pub legal : first (ring-order a others m factors rest) ≡ Passed → Legal a others m × (factors ≡ Passed) × (first rest ≡ Passed)

@@ -2,12 +2,13 @@
 use Prim.Native.Nat.{ℕ, zero, suc, _+_, _-_, _%_}
 use mathlib.Core.Path.{_≡_, refl, sym, ap, _∙_}
 use mathlib.Core.Logic.{_↔_, _≢_, Iff·trans, Iff·and}
-use mathlib.Core.Bool.{Bool, true, false, not, and-eq-true-iff}
+use mathlib.Core.Bool.{Bool, true, not, and-eq-true-iff}
 use native.Mathlib.Omega.{arith}
 use native.Mathlib.Decide.{ℕ-discrete}
 use native.Mathlib.Nat.{div-self}
 use borrow.Author.Tests.{leb-true, eqb-false, not-true, le-leb, ne-eqb}
 use lib.Dec.{eqb, leb}
+use Rattle.sums.proofs.Tests.{one-saying}
 use Rattle.modular.specs.Prime.{Prime, TellsPrime}
 use Rattle.modular.specs.PrimeTest.{undivided?, prime?}
 use Rattle.modular.proofs.Trial.{Free, free-prime, composite}
@@ -40,9 +41,4 @@ prime-exactly p = Iff·trans (and-eq-true-iff (leb 2 p) (undivided? p (p - 2))) 
 
 -- What tells whether p is a prime is this test.
 pub tells-prime : {p : ℕ} {r : Bool} → TellsPrime p r → r ≡ prime? p
-tells-prime {p} {r} t = same r (prime? p) (λ e. prime-exactly p .1 (t .is e)) (λ e. t .told (prime-exactly p .0 e))
-  where
-    same : (a b : Bool) → (a ≡ true → b ≡ true) → (b ≡ true → a ≡ true) → a ≡ b
-    same true b to from = sym (to refl)
-    same false true to from = from refl
-    same false false to from = refl
+tells-prime {p} {r} t = one-saying r (prime? p) (t .is, t .told) (prime-exactly p)

@@ -7,6 +7,7 @@ use mathlib.Core.Logic.{_↔_, _⊎_, inl, inr}
 use mathlib.Core.Bool.{Bool, true, false}
 use mathlib.Core.List.{List}
 use lib.ListN.{length}
+use Rattle.sums.proofs.Tests.{one-saying}
 use Rattle.ring.specs.Inverse.{Invertible}
 use Rattle.ring.proofs.Inverses.{inverse-unique}
 use Rattle.answer.specs.First.{first}
@@ -54,12 +55,6 @@ unmix-one-answer s M old h k =
     _ _ _ _ (h .meets) (k .meets)
 
 -- ---- same feeding
-
--- Two yes or no that say the same.
-one-saying : {A : Type 0} (x y : Bool) → (x ≡ true) ↔ A → (y ≡ true) ↔ A → x ≡ y
-one-saying true y a b = sym (b .1 (a .0 refl))
-one-saying false true a b = a .1 (b .0 refl)
-one-saying false false a b = refl
 
 module _ (m : ℕ) (s₁ s₂ : Sent) where
   -- Which of the two it is: the count rings are the only ones.

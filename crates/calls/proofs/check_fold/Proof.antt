@@ -10,7 +10,7 @@ returns : tie.Need-returns
 returns c =
     let ring = c .before .before in
     let given = ring .before .before .args in
-    one-more (given .a .now) [] (given .m) (c .or .ensures) (ring .check-ring .ensures) refl (c .before .check-divisor .ensures)
+    one-more (given .a .now) [] (given .m) [] (c .or .ensures) (ring .check-ring .ensures) refl (c .before .check-divisor .ensures)
 
 pub check-fold-spec : {M : Type 1} → statement M
 check-fold-spec =

@@ -10,7 +10,7 @@ returns : tie.Need-returns
 returns c =
     let rings = c .before .before in
     let given = rings .before .before .before .args in
-    one-more (given .a .now) (given .b .now ∷ []) (given .m) (c .or .ensures) (rings .check-rings .ensures) refl (c .before .check-room .ensures)
+    one-more (given .a .now) (given .b .now ∷ []) (given .m) [] (c .or .ensures) (rings .check-rings .ensures) refl (c .before .check-room .ensures)
 
 pub check-mix-spec : {M : Type 1} → statement M
 check-mix-spec = tie.close (tie.spec (λ c κs. search needs) (λ c κs. search needs) (λ c κs. search needs) returns)

@@ -1,18 +1,11 @@
 -- `factors::check_factors` meets its contract: each arm is a case of `or`, and where 5 passed the lists are of one length. Assumes nothing.
-use Prim.Native.Nat.{ℕ}
-use mathlib.Core.Path.{_≡_, sym, ap, _∙_}
-use mathlib.Core.List.{List, [], _∷_, _++_}
-use Rattle.answer.specs.First.{or, first}
-use Rattle.answer.proofs.Firsts.{first-append, or-passed, or-go-on, or-stop}
+use mathlib.Core.Path.{sym, _∙_}
+use Rattle.answer.proofs.Firsts.{first-last, or-go-on, or-stop}
 use Rattle.checks.specs.Factors.{entries-order, product, factors}
 use Rattle.checks.proofs.FactorCheck.{sized-exactly}
 use borrow.Author.Needs.{needs}
 use Rattle.factors.proofs.check_factors.Statement.{statement}
 use Rattle.factors.proofs.check_factors.Tie as tie
-
--- What comes after 5: the checks of the entries, and 13 after them.
-after-sizes : (m : ℕ) (ps es : List ℕ) → or (first (entries-order 0 0 ps es)) (product m ps es) ≡ first (entries-order 0 0 ps es ++ (product m ps es ∷ []))
-after-sizes m ps es = sym (first-append (entries-order 0 0 ps es) (product m ps es ∷ []) ∙ ap (or (first (entries-order 0 0 ps es))) (or-passed (product m ps es)))
 
 enum-told : tie.Need-enum-told
 enum-told c = search needs
@@ -28,7 +21,7 @@ unfolding factors
 returns c =
     let sized = c .before .before .before in
     let given = sized .before .before .before .args in
-    or-go-on (sized .check-sizes .ensures) (c .before .enum-told .given .1) (c .check-list .ensures ∙ after-sizes (given .m) (given .primes .now) (given .exponents .now))
+    or-go-on (sized .check-sizes .ensures) (c .before .enum-told .given .1) (c .check-list .ensures ∙ sym (first-last (entries-order 0 0 (given .primes .now) (given .exponents .now)) (product (given .m) (given .primes .now) (given .exponents .now))))
 
 returns-2 : tie.Need-returns-2
 unfolding factors

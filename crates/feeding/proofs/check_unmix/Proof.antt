@@ -11,7 +11,7 @@ returns c =
     let listed = rings .before in
     let lent = listed .before in
     let given = lent .before .before .before .before .args in
-    one-more (given .f .now) (given .y .now ∷ []) (given .m) (c .or .ensures) (rings .check-rings .ensures) (listed .check-factors .ensures) (c .before .check-room .ensures)
+    one-more (given .f .now) (given .y .now ∷ []) (given .m) [] (c .or .ensures) (rings .check-rings .ensures) (listed .check-factors .ensures) (c .before .check-room .ensures)
 
 pub check-unmix-spec : {M : Type 1} → statement M
 check-unmix-spec =

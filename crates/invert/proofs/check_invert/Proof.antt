@@ -10,7 +10,7 @@ returns c =
     let fits = c .before .before in
     let listed = fits .before in
     let given = listed .before .before .before .before .args in
-    one-more (given .f .now) [] (given .m) (c .or .ensures) (c .before .check-ring .ensures) (listed .check-factors .ensures) (fits .check-room .ensures)
+    one-more (given .f .now) [] (given .m) [] (c .or .ensures) (c .before .check-ring .ensures) (listed .check-factors .ensures) (fits .check-room .ensures)
 
 pub check-invert-spec : {M : Type 1} → statement M
 check-invert-spec =
