@@ -20,7 +20,7 @@
 
 /* The version. It stands nowhere else: what else tells it reads these three lines. */
 #define DOWELBROOK_VERSION_MAJOR 0
-#define DOWELBROOK_VERSION_MINOR 3
+#define DOWELBROOK_VERSION_MINOR 4
 #define DOWELBROOK_VERSION_PATCH 0
 
 /* The three as one string, with points between them. (DOWELBROOK_VERSION is one of the numbers below.) */
@@ -157,8 +157,11 @@ dowelbrook_reply dowelbrook_unmix(const uint32_t *f, size_t f_len,
                                   uint32_t *out, size_t out_len);
 
 /*
- * Whether the counts behind readings y1 (2) through pattern f1 (1) and behind
- * readings y2 (4) through pattern f2 (3) are equal, entry by entry.
+ * Whether readings y1 (2) through pattern f1 (1) and readings y2 (4) through
+ * pattern f2 (3) are of the same feeding: the counts behind them are equal,
+ * entry by entry, and at least one of them is not zero. So an idle tank, in
+ * which every count is zero, is never the same feeding as another idle tank,
+ * nor as itself: that is a no, and no refusal.
  * Refuses, in this order: EMPTY, LARGE, MISMATCH, MODULUS, FACTORS, EXPONENT,
  * PRIME, ORDER, PRODUCT, COEFFICIENT, SINGULAR.
  */

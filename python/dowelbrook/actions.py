@@ -94,6 +94,9 @@ def same(arguments: argparse.Namespace) -> int:
     given = rings_given(arguments, *calls.FOUR_NAMES, with_readings=True)
     f1, y1, f2, y2 = given.rings
     verdict = calls.same_feeding(f1, y1, f2, y2, given.modulus, given.factors(arguments.factors))
+    # Through a pattern that has an inverse there is no reading exactly where every count is zero.
+    if not any(y1) and not any(y2):
+        say("every count is zero on both sides, and an idle tank is no feeding")
     print("yes" if verdict else "no")
     return DONE if verdict else NO
 

@@ -196,11 +196,17 @@ def unmix(f: Ring, y: R, m: int, factors: Factors | None = None) -> R:
 
 
 def same_feeding(f1: Ring, y1: Ring, f2: Ring, y2: Ring, m: int, factors: Factors | None = None) -> bool:
-    """Whether readings y1 through pattern f1 and y2 through f2 have the same counts behind them.
+    """Whether readings y1 through pattern f1 and y2 through f2 are of the same feeding: the counts behind them are
+    equal, and at least one of them is not zero.
 
     >>> same_feeding([1, 2], [3, 2], [3, 2], [1, 2], 8)
     True
     >>> same_feeding([1, 2], [3, 2], [3, 2], [1, 3], 8)
+    False
+
+    An idle tank, in which every count is zero, is no feeding, and not the same one as any tank, itself included:
+
+    >>> same_feeding([1, 2], [0, 0], [3, 2], [0, 0], 8)
     False
     """
     modulus = word(m, "the modulus")

@@ -242,8 +242,10 @@ COMMANDS = {
         actions.same,
         lambda parser: add_rings(parser, with_factors=True),
         "whether two readings are of one feeding",
-        f"Prints yes or no: whether the same counts are behind readings heard through two patterns. Four RINGs,\n"
-        f"pattern and readings of the one and of the other, or two files.\n\n{RINGS_AND_READINGS}",
+        f"Prints yes or no: whether the same counts, at least one of which is not zero, are behind readings heard\n"
+        f"through two patterns. An idle tank, in which every count is zero, is no feeding: then the answer is no, even\n"
+        f"for a tank with itself. Four RINGs, pattern and readings of the one and of the other, or two files.\n\n"
+        f"{RINGS_AND_READINGS}",
         """\
     $ %(prog)s --modulus 8 1,2 3,2 3,2 1,2
     yes""",

@@ -22,6 +22,7 @@ COMMAND = str(ROOT / "tools" / "dowelbrook")
 NAMES = "make show unmix invert mix reduce fold same factor explain".split()
 
 WHOLE_CASE = "modulus 10\npattern 1 2 0\nreadings 1 2 5\n"
+IDLE = "dowelbrook: every count is zero on both sides, and an idle tank is no feeding\n"
 
 
 def content_of(stream):
@@ -124,6 +125,13 @@ class Statuses(Typed):
     def test_yes_and_no(self):
         self.check(["same", "--modulus", "8", "1,2", "3,2", "3,2", "1,2"], 0, "yes\n")
         self.check(["same", "--modulus", "8", "1,2", "3,2", "3,2", "1,3"], 1, "no\n")
+
+    def test_an_idle_tank_is_no_feeding(self):
+        self.check(["same", "--modulus", "8", "1,2", "0,0", "3,2", "0,0"], 1, "no\n", IDLE)
+        self.check(["same", "--modulus", "8", "1,2", "0,0", "1,2", "0,0"], 1, "no\n", IDLE)
+        self.check(["same", "--modulus", "8", "1,2", "0,0", "3,2", "1,2"], 1, "no\n")
+        self.check(["same", "--modulus", "8", "1,2", "3,2", "3,2", "0,0"], 1, "no\n")
+        self.check(["same", "--modulus", "8", "1,0", "0,1", "3,0", "0,3"], 0, "yes\n")
 
     def test_unreadable_input(self):
         said = "dowelbrook: item 1 of '1,,2' is empty\n"
@@ -248,6 +256,7 @@ class Sources(Typed):
             self.check(["mix", name, "1,0,5"], 0, "1 2 5\n")
         self.check(["unmix", "-"], 0, "1 0 5\n", given=WHOLE_CASE)
         self.check(["same", *(str(examples / f"twin-{which}.sheet") for which in ("one", "two"))], 0, "yes\n")
+        self.check(["same", *(str(examples / f"idle-{which}.sheet") for which in ("one", "two"))], 1, "no\n", IDLE)
 
     def test_readings_beside_a_sheet_without(self):
         name = self.write("pattern.txt", "modulus 10\npattern 1 2 0\n")

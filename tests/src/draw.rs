@@ -164,19 +164,21 @@ fn spoil_lengths(case: &mut Case, random: &mut Random) {
     }
 }
 
-/// Makes one to three entries m or more.
+/// Makes one to three entries m or more, if there are any.
 fn spoil_entries(case: &mut Case, random: &mut Random) {
+    let mut filled: Vec<&mut Vec<u32>> =
+        case.rings.iter_mut().filter(|ring| !ring.is_empty()).collect();
+    if filled.is_empty() {
+        return;
+    }
     for _ in 0..1 + random.below(3) {
-        let index = random.below(case.rings.len());
-        let length = case.rings[index].len();
-        if length > 0 {
-            let anywhere = random.below(length);
-            let place = random.one_of(&[0, length - 1, anywhere, anywhere]);
-            let above = random.between(case.m, u32::MAX);
-            let same = case.rings[index][place].saturating_add(case.m);
-            let entry = random.one_of(&[case.m, same, same, same, above, u32::MAX]);
-            case.rings[index][place] = entry;
-        }
+        let index = random.below(filled.len());
+        let ring = &mut filled[index];
+        let anywhere = random.below(ring.len());
+        let place = random.one_of(&[0, ring.len() - 1, anywhere, anywhere]);
+        let above = random.between(case.m, u32::MAX);
+        let same = ring[place].saturating_add(case.m);
+        ring[place] = random.one_of(&[case.m, same, same, same, above, u32::MAX]);
     }
 }
 

@@ -11,6 +11,7 @@ mod door;
 mod draw;
 mod factors;
 mod figures;
+mod idle;
 mod large;
 mod lent;
 mod numbers;
@@ -105,7 +106,7 @@ struct Group {
     shares: Vec<Share>,
 }
 
-fn groups() -> [Group; 5] {
+fn groups() -> [Group; 6] {
     let group = |what, least, parts| {
         let (head, shares) = (Counts::head(), parts::shares(parts));
         Group { what, least, head, shares }
@@ -114,6 +115,7 @@ fn groups() -> [Group; 5] {
     [
         Group { what: "cases", least: 900_000, head, shares },
         group("factor lists in calls", 300_000, &calls::lists::ALL),
+        group("pairs of tanks, idle or nearly so", 200_000, &[idle::PART]),
         group("inner answers", 3_000_000, &probe::ALL),
         group("sheets", 2_000_000, &sheets::ALL),
         group("runs of the program", 10_000, &[program::PART]),

@@ -34,7 +34,8 @@ pub fn draw(n: usize, p: u32, random: &mut Random) -> Pattern {
     Pattern { f, p }
 }
 
-fn monomial(n: usize, place: usize, coefficient: u32) -> Vec<u32> {
+/// One coefficient, at this place.
+pub fn monomial(n: usize, place: usize, coefficient: u32) -> Vec<u32> {
     let mut f = vec![0; n];
     f[place] = coefficient;
     f

@@ -1,8 +1,9 @@
-//! Twins: one feeding heard through two patterns is the same feeding, and not when one count differs.
+//! Twins: one feeding heard through two patterns is the same feeding, and not when one count differs or
+//! when there is none.
 //! Nothing is solved here, so it holds at any length.
 
 use crate::calls::mix::product;
-use crate::calls::same_feeding::{nearly, of, said, CALL};
+use crate::calls::same_feeding::{nearly, of, said, same, CALL};
 use crate::case::Answer;
 use crate::compare;
 use crate::draw::{legal_modulus, ring, short_length};
@@ -26,7 +27,7 @@ pub fn agree(f1: &[u32], f2: &[u32], m: u32, random: &mut Random) -> Result<(), 
     let counts = ring(f1.len(), m, random);
     for others in [counts.clone(), nearly(&counts, m, random)] {
         let (y1, y2) = (product(f1, &counts, m), product(f2, &others, m));
-        let verdict = said(counts == others);
+        let verdict = said(same(&counts, &others));
         compare::demand(
             &CALL,
             &of([f1, &y1, f2, &y2], m),

@@ -38,7 +38,7 @@ pub fn check_modulus(m: u32, least: u32, most: u32) -> Check
 }
 
 // The place of the first entry that is m or more; the length where there is none.
-fn first_high(a: &[u32], m: u32) -> usize
+pub fn first_high(a: &[u32], m: u32) -> usize
     ensures { λ r. ⌜ r ≡ first-high m (now (a .entry)) ⌝ }
 {
     let mut i = 0;

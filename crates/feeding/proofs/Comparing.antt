@@ -1,10 +1,12 @@
 -- Same feeding, from what unmixing both sides and comparing the counts found. Assumes nothing.
-use Prim.Native.Nat.{ℕ}
+use Prim.Native.Nat.{ℕ, _≤_, _<_}
 use mathlib.Core.Path.{_≡_, refl, sym, ap, _∙_, subst}
 use mathlib.Core.Logic.{_↔_, inl, inr}
-use mathlib.Core.Bool.{Bool, true, false, true≢false}
+use mathlib.Core.Bool.{Bool, true, false, true≢false, not-eq-not}
 use mathlib.Core.List.{List, []}
 use native.Mathlib.Omega.{arith}
+use borrow.Author.Tests.{le-ltb}
+use lib.Dec.{ltb}
 use lib.ListN.{length}
 use lib.Seq.{ext-getD}
 use Rattle.sums.specs.Table.{at}
@@ -18,6 +20,8 @@ use Rattle.answer.specs.declared.Refusal.{Refusal}
 use Rattle.answer.specs.declared.Answer.{Answer}
 use Rattle.answer.specs.declared.Answer.the-variants.{Done, Singular, Refused}
 use Rattle.answer.proofs.Firsts.{passed-refused}
+use Rattle.checks.specs.Checks.{first-high}
+use Rattle.checks.proofs.FirstHigh.{high-before, high-at}
 use Rattle.pattern.specs.Sent.{Sent, entries}
 use Rattle.pattern.specs.Factored.{Factored}
 use Rattle.pattern.specs.Granted.{BothGranted}
@@ -31,13 +35,20 @@ use Rattle.feeding.specs.Unmixings.{CanCount, CountMeans, Counted}
 use Rattle.feeding.specs.Inner.{untold, Judged}
 use Rattle.feeding.specs.declared.Verdict.{Verdict}
 
--- Two lists of n entries are one exactly when they are the same entry by entry.
-same-exactly : {n : ℕ} {a b : List ℕ} (r : Bool) → length a ≡ n → length b ≡ n → TellsEqual a b r → (r ≡ true) ↔ Same n a b
-same-exactly {n} {a} {b} true la lb t = ((λ e. record { entries = λ i h. ap (λ (l : List ℕ). at l i) (t .equal refl) }), (λ s. refl))
-same-exactly {n} {a} {b} false la lb t = (
-  (λ e. absurd (true≢false (sym e))),
-  (λ s. absurd (t .differ refl (ext-getD 0 a b (la ∙ sym lb) (λ i h. s .entries i (omega arith))))),
-)
+-- Whether two rings of counts are the same feeding, where k is the place of the first count of a that is 1 or more. If there is one, the comparison tells;
+module _ {a b : List ℕ} {k : ℕ} (found : k ≡ first-high 1 a) where
+  pub fed-exactly : {same : Bool} → length b ≡ length a → k < length a → TellsEqual a b same → (same ≡ true) ↔ Same (length a) a b
+  fed-exactly long inside t = (
+    (λ e. record { entries = λ i h. ap (λ (l : List ℕ). at l i) (t .equal e); place = k; inside = inside; some = λ z. absurd (omega (arith, rw (← found) at (high-at 1 a (omega arith)))) }),
+    (λ s. not-eq-not .0 (λ e. t .differ e (ext-getD 0 a b (sym long) (s .entries)))),
+  )
+
+  -- if there is none, the test that finds none tells.
+  pub unfed-exactly : length a ≤ k → (ltb k (length a) ≡ true) ↔ Same (length a) a b
+  unfed-exactly none = (
+    (λ e. absurd (true≢false (sym e ∙ le-ltb k (length a) none))),
+    (λ s. absurd (s .some (let low : at a (s .place) < 1 = high-before 1 a (s .place) (omega (arith, s .inside)) in omega arith))),
+  )
 
 module _ {s₁ s₂ : Sent} {M : Factored} (both : BothGranted s₁ s₂ M) where
   abbrev m : ℕ
@@ -67,17 +78,14 @@ module _ {s₁ s₂ : Sent} {M : Factored} (both : BothGranted s₁ s₂ M) wher
         unmixed₂ : Unmixed m s₂ c₂
         unmixed₂ = subst (CountMeans s₂ m old₂ c₂) e₂ (u₂ .means)
 
-        second-long : length c₂ ≡ entries s₁
-        second-long = unmixed₂ .counts .ring .long ∙ both .one-size
-
         pub one-length : length c₂ ≡ length c₁
-        one-length = second-long ∙ sym (unmixed₁ .counts .ring .long)
+        one-length = unmixed₂ .counts .ring .long ∙ both .one-size ∙ sym (unmixed₁ .counts .ring .long)
 
-        pub compared : {same : Bool} → TellsEqual c₁ c₂ same → Judged m s₁ s₂ (record { answer = Done; same = same })
-        compared {same} t = record {
+        pub compared : {same : Bool} → (same ≡ true) ↔ Same (length c₁) c₁ c₂ → Judged m s₁ s₂ (record { answer = Done; same = same })
+        compared exactly = record {
           meets = (
             refl,
-            record { counts₁ = c₁; counts₂ = c₂; unmixed₁ = unmixed₁; unmixed₂ = unmixed₂; exactly = same-exactly same (unmixed₁ .counts .ring .long) second-long t },
+            record { counts₁ = c₁; counts₂ = c₂; unmixed₁ = unmixed₁; unmixed₂ = unmixed₂; exactly = rw (unmixed₁ .counts .ring .long) at exactly },
           );
         }
 

@@ -4,6 +4,7 @@ use answer::Check;
 use checks::check_four_rings;
 use checks::check_rings;
 use checks::check_room;
+use checks::first_high;
 use convolve::convolve;
 use factors::check_factors;
 use invert::Inversion;
@@ -12,9 +13,13 @@ use invert::invert_legal;
 use limits::MOST_ENTRIES;
 use slices::same;
 ghost use mathlib.Core.Path.{_≡_};
+ghost use mathlib.Core.Logic.{_↔_};
+ghost use mathlib.Core.Bool.{true};
+ghost use lib.ListN.{length};
 ghost use Rattle.answer.specs.First.{first};
 ghost use Rattle.pattern.specs.Sent.{sent};
 ghost use Rattle.pattern.specs.Factored.{factored};
+ghost use Rattle.pattern.specs.Same.{Same};
 ghost use Rattle.pattern.specs.Granted.{BothGranted};
 ghost use Rattle.pattern.specs.Contracts.{unmix-order, same-order, Unmixes, SameFeeding};
 ghost use Rattle.feeding.specs.Unmixings.{CanCount, Counted, CanUnmix, Unmixing};
@@ -129,6 +134,15 @@ fn untold(answer: Answer) -> Verdict
     }
 }
 
+// Whether two rings of counts are the same feeding: they agree, and at least one entry isn't zero.
+fn same_counts(a: &[u32], b: &[u32]) -> bool
+    requires { ⌜ length (now b) ≡ length (now a) ⌝ }
+    ensures { λ r. ⌜ (r ≡ true) ↔ Same (length (now (a .entry))) (now (a .entry)) (now (b .entry)) ⌝ }
+{
+    let n = a.len();
+    first_high(a, 1) < n && same(a, b)
+}
+
 // Both sides are unmixed and the counts compared, with n entries or more lent for each.
 fn compare_in(
     f1: &[u32],
@@ -153,7 +167,7 @@ fn compare_in(
             Inversion::Ghost(p) => untold(inversion_answer(Inversion::Ghost(p), 3)),
             Inversion::Inverted => Verdict {
                 answer: Answer::Done,
-                same: same(c1, c2),
+                same: same_counts(c1, c2),
             },
         },
     }

@@ -1,16 +1,19 @@
--- Demand 3, over demand 2's inverse: the inverse of a mix is the mix of the inverses; of an inverse the pattern; reducing and folding keep inverses; and
--- same feeding says yes exactly when the counts behind the readings agree modulo m. Each as a law of the definitions (those on inverses stand in crate
--- ring and are named here), and as what it means for the calls: the answer that fits, and by proofs/OneAnswer.antt there is no other. Assumes nothing.
-use Prim.Native.Nat.{ℕ, _≤_, _<_}
+-- Demand 3, over demand 2's inverse: the inverse of a mix is the mix of the inverses; of an inverse the pattern; reducing and folding keep inverses; and,
+-- as document 02's second request reads its last sentence, same feeding says yes exactly when the counts behind the readings agree modulo m and are not
+-- all zero. Each as a law of the definitions (those on inverses stand in crate ring and are named here), and as what it means for the calls: the answer
+-- that fits, and by proofs/OneAnswer.antt there is no other. Assumes nothing.
+use Prim.Native.Nat.{ℕ, _%_, _≤_, _<_}
 use mathlib.Core.Path.{_≡_, refl, sym, ap, _∙_, subst}
-use mathlib.Core.Logic.{_↔_}
-use mathlib.Core.Bool.{Bool, true}
+use mathlib.Core.Logic.{_↔_, _⊎_, _≢_, inl, inr}
+use mathlib.Core.Bool.{Bool, true, false, true≢false, not-eq-not}
 use mathlib.Core.List.{List, [], _∷_}
 use native.Mathlib.Omega.{arith}
+use native.Mathlib.Decide.{ℕ-discrete}
 use native.Mathlib.Nat.{le-of-dvd}
 use lib.ListN.{length}
 use Rattle.sums.specs.Table.{at}
 use Rattle.sums.proofs.Tables.{at-table}
+use Rattle.sums.proofs.Tests.{all-or-one}
 use Rattle.limits.specs.Limits.{least-modulus}
 use Rattle.ring.specs.Ring.{Ring}
 use Rattle.ring.specs.Mix.{mix}
@@ -39,8 +42,9 @@ use Rattle.pattern.specs.Heard.{heard}
 use Rattle.pattern.specs.Counts.{Unmixed}
 use Rattle.pattern.specs.Same.{Same}
 use Rattle.pattern.specs.Agree.{Agree}
+use Rattle.pattern.specs.Idle.{Idle, SentIdle}
 use Rattle.pattern.specs.Granted.{Granted}
-use Rattle.pattern.specs.Contracts.{invert-order, same-order, Inverts, SameFeeding}
+use Rattle.pattern.specs.Contracts.{invert-order, same-order, Inverts, Compared, SameFeeding}
 use Rattle.pattern.proofs.Granted.{invert-granted, invert-passes, same-granted}
 use Rattle.pattern.proofs.Unmixing.{heard-unmixed}
 use Rattle.pattern.proofs.OneAnswer.{compared-exactly, named-none}
@@ -147,13 +151,25 @@ invert-folded {M} {f} {g} {f′} {g′} {o₁} {o₂} {o₃} old h k k′ e e′
 
 -- ---- same feeding
 
--- The counts behind what was heard of c₁ and c₂ are the same exactly when c₁ and c₂ agree modulo m.
-same-exactly : (n m : ℕ) (c₁ c₂ : List ℕ) → Same n (reduce n m c₁) (reduce n m c₂) ↔ Agree n m c₁ c₂
+-- The counts behind what was heard of c₁ and c₂ are the same exactly when c₁ and c₂ agree modulo m and are not all zero.
+same-exactly : (n m : ℕ) (c₁ c₂ : List ℕ) → Same n (reduce n m c₁) (reduce n m c₂) ↔ (Agree n m c₁ c₂ × ¬ Idle n m c₁)
 unfolding reduce
 same-exactly n m c₁ c₂ = (
-  (λ s. record { entries = λ i h. sym (at-table n _ i h) ∙ s .entries i h ∙ at-table n _ i h }),
-  (λ s. record { entries = λ i h. at-table n _ i h ∙ s .entries i h ∙ sym (at-table n _ i h) }),
+  (λ s. (
+    record { entries = λ i h. sym (at-table n _ i h) ∙ s .entries i h ∙ at-table n _ i h },
+    λ idle. s .some (at-table n _ (s .place) (s .inside) ∙ idle .entries (s .place) (s .inside)),
+  )),
+  (λ t. pick (t .0) (t .1) (all-or-one _ (λ i. ℕ-discrete (at c₁ i % m) 0) n)),
 )
+  where
+    pick : Agree n m c₁ c₂ → ¬ Idle n m c₁ → ((i : ℕ) → i < n → at c₁ i % m ≡ 0) ⊎ ((i : ℕ) × (i < n) × (at c₁ i % m ≢ 0)) → Same n (reduce n m c₁) (reduce n m c₂)
+    pick agree busy (inl idle) = absurd (busy (record { entries = idle }))
+    pick agree busy (inr (place, inside, some)) = record {
+      entries = λ i h. at-table n _ i h ∙ agree .entries i h ∙ sym (at-table n _ i h);
+      place = place;
+      inside = inside;
+      some = λ e. some (sym (at-table n _ place inside) ∙ e);
+    }
 
 module _ (s₁ s₂ : Sent) (M : Factored) (ok : first (same-order s₁ s₂ M) ≡ check.Passed) (a : Answer) (same : Bool) (h : SameFeeding s₁ s₂ M a same) where
   -- A legal call whose two count rings can be told is done, and says yes exactly when they are the same,
@@ -165,15 +181,54 @@ module _ (s₁ s₂ : Sent) (M : Factored) (ok : first (same-order s₁ s₂ M) 
       go (Singular r p) k = absurd (named-none s₁ s₂ M (same-granted s₁ s₂ M ok) (k .meets .1 .lowest) (u₁ .invertible, u₂ .invertible))
       go (Refused r) k = absurd (passed-refused ok (k .meets .0))
 
-  -- and of readings taken through two patterns that have inverses exactly when the counts behind them agree modulo m.
-  pub same-feeding : (c₁ c₂ : List ℕ) → s₁ .readings ≡ heard (M .modulus) s₁ c₁ → s₂ .readings ≡ heard (M .modulus) s₂ c₂
-      → Invertible (entries s₁) (M .modulus) (s₁ .pattern) → Invertible (entries s₂) (M .modulus) (s₂ .pattern) → (a ≡ Done) × ((same ≡ true) ↔ Agree (entries s₁) (M .modulus) c₁ c₂)
-  same-feeding c₁ c₂ e₁ e₂ i₁ i₂ =
-      let m = M .modulus in
-      let given = same-granted s₁ s₂ M ok in
-      let pos : 0 < m = omega (arith, given .first-side .legal .low) in
-      let u₁ = heard-unmixed m s₁ c₁ pos e₁ i₁ in
-      let u₂ : Unmixed m s₂ (reduce (entries s₁) m c₂) = subst (λ (n : ℕ). Unmixed m s₂ (reduce n m c₂)) (given .one-size) (heard-unmixed m s₂ c₂ pos e₂ i₂) in
-      let t = yes-exactly u₁ u₂ in
-      let law = same-exactly (entries s₁) m c₁ c₂ in
-      (t .0, ((λ e. law .0 (t .1 .0 e)), (λ e. t .1 .1 (law .1 e))))
+  -- and of readings taken through two patterns that have inverses
+  module _ (c₁ c₂ : List ℕ) (e₁ : s₁ .readings ≡ heard (M .modulus) s₁ c₁) (e₂ : s₂ .readings ≡ heard (M .modulus) s₂ c₂)
+      (i₁ : Invertible (entries s₁) (M .modulus) (s₁ .pattern)) (i₂ : Invertible (entries s₂) (M .modulus) (s₂ .pattern)) where
+    -- exactly when the counts behind them agree modulo m and are not all zero;
+    pub same-feeding : (a ≡ Done) × ((same ≡ true) ↔ (Agree (entries s₁) (M .modulus) c₁ c₂ × ¬ Idle (entries s₁) (M .modulus) c₁))
+    same-feeding =
+        let m = M .modulus in
+        let given = same-granted s₁ s₂ M ok in
+        let pos : 0 < m = omega (arith, given .first-side .legal .low) in
+        let u₁ = heard-unmixed m s₁ c₁ pos e₁ i₁ in
+        let u₂ : Unmixed m s₂ (reduce (entries s₁) m c₂) = subst (λ (n : ℕ). Unmixed m s₂ (reduce n m c₂)) (given .one-size) (heard-unmixed m s₂ c₂ pos e₂ i₂) in
+        let t = yes-exactly u₁ u₂ in
+        let law = same-exactly (entries s₁) m c₁ c₂ in
+        (t .0, ((λ e. law .0 (t .1 .0 e)), (λ e. t .1 .1 (law .1 e))))
+
+    -- no in every other case. (There are counts behind all legal readings through such a pattern: `counts-behind` in proofs/Unmixing.antt.)
+    pub other-feeding : ¬ (Agree (entries s₁) (M .modulus) c₁ c₂ × ¬ Idle (entries s₁) (M .modulus) c₁) → (a ≡ Done) × (same ≡ false)
+    other-feeding differ = (same-feeding .0, not-eq-not .0 (λ yes. differ (same-feeding .1 .0 yes)))
+
+-- ---- an idle tank is no feeding, whatever is lent, legal or not
+
+module _ (s₁ s₂ : Sent) (M : Factored) where
+  abbrev m : ℕ
+  m = M .modulus
+
+  -- Where it says yes the call is legal and both count rings can be told;
+  told : (a : Answer) → SameFeeding s₁ s₂ M a true → (first (same-order s₁ s₂ M) ≡ check.Passed) × Compared m s₁ s₂ true
+  told Done h = h .meets
+  told (Singular r p) h = absurd (true≢false (h .meets .1 .untold))
+  told (Refused r) h = absurd (true≢false (h .meets .1))
+
+  -- and they agree and are not all zero.
+  module _ (a : Answer) (h : SameFeeding s₁ s₂ M a true) where
+    fed : (c₁ c₂ : List ℕ) → s₁ .readings ≡ heard m s₁ c₁ → s₂ .readings ≡ heard m s₂ c₂ → Agree (entries s₁) m c₁ c₂ × ¬ Idle (entries s₁) m c₁
+    fed c₁ c₂ e₁ e₂ = let (ok, k) = told a h in same-feeding s₁ s₂ M ok a true h c₁ c₂ e₁ e₂ (k .unmixed₁ .invertible) (k .unmixed₂ .invertible) .1 .0 refl
+
+    busy-first : ¬ SentIdle m s₁
+    busy-first t = let k = told a h .1 in fed (t .counts) (k .counts₂) (t .readings) (sym (k .unmixed₂ .counts .readings)) .1 (t .idle)
+
+    busy-second : ¬ SentIdle m s₂
+    busy-second t =
+        let (ok, k) = told a h in
+        let one-size = same-granted s₁ s₂ M ok .one-size in
+        let (agree, busy) = fed (k .counts₁) (t .counts) (sym (k .unmixed₁ .counts .readings)) (t .readings) in
+        busy (record { entries = λ i b. agree .entries i b ∙ t .idle .entries i (omega arith) })
+
+  -- So it never says yes of an idle tank: not with another, which may be idle too, and not with itself, since s₂ may be s₁.
+  pub never-idle : (a : Answer) (same : Bool) → SameFeeding s₁ s₂ M a same → SentIdle m s₁ ⊎ SentIdle m s₂ → same ≡ false
+  never-idle a false h t = refl
+  never-idle a true h (inl t) = absurd (busy-first a h t)
+  never-idle a true h (inr t) = absurd (busy-second a h t)

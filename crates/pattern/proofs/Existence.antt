@@ -1,14 +1,15 @@
 -- For every input of invert, unmix and same feeding some answer fits, with something beside it: with proofs/OneAnswer.antt, exactly one.
 -- Where no check refuses there is an inverse or a smallest singular prime. Assumes nothing.
-use Prim.Native.Nat.{ℕ, zero, suc, _<_}
-use mathlib.Core.Path.{_≡_, refl, sym, ap, _∙_}
-use mathlib.Core.Logic.{_↔_, _⊎_, inl, inr}
+use Prim.Native.Nat.{ℕ, _<_}
+use mathlib.Core.Path.{_≡_, refl, sym}
+use mathlib.Core.Logic.{_↔_, _⊎_, _≢_, inl, inr}
 use mathlib.Core.Bool.{Bool, true, false, true≢false}
 use mathlib.Core.List.{List, [], _∷_}
 use native.Mathlib.Omega.{arith}
 use native.Mathlib.Decide.{ℕ-discrete}
 use lib.ListN.{length}
 use Rattle.sums.specs.Table.{at}
+use Rattle.sums.proofs.Tests.{all-or-one}
 use Rattle.ring.specs.Inverse.{Inverse, Invertible}
 use Rattle.answer.specs.declared.Answer.{Answer}
 use Rattle.answer.proofs.OneAnswer.{some-answer}
@@ -63,13 +64,12 @@ module _ (s : Sent) (M : Factored) (old : List ℕ) where
 
 -- Whether two count rings are the same can be decided.
 same? : (n : ℕ) (c₁ c₂ : List ℕ) → Dec (Same n c₁ c₂)
-same? zero c₁ c₂ = yes (record { entries = λ i h. absurd (omega arith) })
-same? (suc n) c₁ c₂ = go (same? n c₁ c₂) (ℕ-discrete (at c₁ n) (at c₂ n))
+same? n c₁ c₂ = go (all-or-one _ (λ i. ℕ-discrete (at c₁ i) (at c₂ i)) n) (all-or-one _ (λ i. ℕ-discrete (at c₁ i) 0) n)
   where
-    go : Dec (Same n c₁ c₂) → Dec (at c₁ n ≡ at c₂ n) → Dec (Same (suc n) c₁ c₂)
-    go (no h) e = no λ s. h (record { entries = λ i b. s .entries i (omega arith) })
-    go (yes h) (no e) = no λ s. e (s .entries n (omega arith))
-    go (yes h) (yes e) = yes (record { entries = λ i b. elim (ℕ-discrete i n) [ yes q ↦ ap (at c₁) q ∙ e ∙ ap (at c₂) (sym q) | no q ↦ h .entries i (omega arith) ] })
+    go : ((i : ℕ) → i < n → at c₁ i ≡ at c₂ i) ⊎ ((i : ℕ) × (i < n) × (at c₁ i ≢ at c₂ i)) → ((i : ℕ) → i < n → at c₁ i ≡ 0) ⊎ ((i : ℕ) × (i < n) × (at c₁ i ≢ 0)) → Dec (Same n c₁ c₂)
+    go (inr (i, h, differ)) _ = no λ s. differ (s .entries i h)
+    go (inl agree) (inl idle) = no λ s. s .some (idle (s .place) (s .inside))
+    go (inl agree) (inr (i, h, some)) = yes (record { entries = agree; place = i; inside = h; some = some })
 
 -- Yes or no, by a decision.
 said : {A : Type 0} → Dec A → (same : Bool) × ((same ≡ true) ↔ A)

@@ -1,22 +1,26 @@
--- The counts behind readings: they are the inverse mixed with the readings, the only ones, and unmixing what was heard of counts gives them back.
--- f (g y) = y, and c = g (f c), where g is the inverse of f. Assumes nothing.
+-- The counts behind readings: they are the inverse mixed with the readings, the only ones, all zero exactly when the readings are, and unmixing what was
+-- heard of counts gives them back. f (g y) = y, and c = g (f c), where g is the inverse of f. Assumes nothing.
 use Prim.Native.Nat.{ℕ, _<_}
 use mathlib.Core.Path.{_≡_, sym, ap, _∙_}
+use mathlib.Core.Logic.{_↔_}
 use mathlib.Core.List.{List}
 use native.Mathlib.Omega.{arith}
 use lib.ListN.{length}
+use Rattle.sums.specs.Table.{at}
+use Rattle.sums.proofs.Tables.{at-table, table-eq}
 use Rattle.ring.specs.Ring.{Ring}
 use Rattle.ring.specs.Mix.{mix}
-use Rattle.ring.specs.One.{one}
+use Rattle.ring.specs.One.{one, zeros}
 use Rattle.ring.specs.Reduce.{reduce}
 use Rattle.ring.specs.Inverse.{Inverse, Invertible}
 use Rattle.ring.proofs.Entries.{reduce-id, reduce-ring}
-use Rattle.ring.proofs.Product.{mix-comm, mix-assoc, mix-one, mix-reduce, mix-ring}
+use Rattle.ring.proofs.Product.{mix-comm, mix-assoc, mix-one, mix-zeros, mix-reduce, mix-ring}
 use Rattle.answer.specs.declared.Answer.the-variants.{Done}
 use Rattle.pattern.specs.Sent.{Sent, entries}
 use Rattle.pattern.specs.Factored.{Factored}
 use Rattle.pattern.specs.Heard.{heard}
 use Rattle.pattern.specs.Counts.{Counts, Unmixed}
+use Rattle.pattern.specs.Idle.{Idle}
 use Rattle.pattern.specs.Contracts.{Inverts, Unmixes}
 use Rattle.pattern.proofs.Granted.{unmix-granted}
 
@@ -26,6 +30,16 @@ back n m {f} {g} c i = sym (mix-assoc n m g f c) ∙ ap (λ (x : List ℕ). mix 
 
 forth : (n m : ℕ) {f g : List ℕ} (y : List ℕ) → Inverse n m f g → mix n m f (mix n m g y) ≡ reduce n m y
 forth n m {f} {g} y i = sym (mix-assoc n m f g y) ∙ ap (λ (x : List ℕ). mix n m x y) (i .product) ∙ mix-comm n m (one n m) y ∙ mix-one n m y
+
+-- A tank is idle exactly when its counts are zeros, modulo m.
+module _ {n m : ℕ} {c : List ℕ} where
+  zeros-idle : reduce n m c ≡ zeros n → Idle n m c
+  unfolding reduce zeros
+  zeros-idle e = record { entries = λ i h. sym (at-table n _ i h) ∙ ap (λ (l : List ℕ). at l i) e ∙ at-table n _ i h }
+
+  idle-zeros : Idle n m c → reduce n m c ≡ zeros n
+  unfolding reduce zeros
+  idle-zeros idle = table-eq n _ _ (idle .entries)
 
 module _ (m : ℕ) (s : Sent) where
   -- "The counts, that is the inverse mixed with the readings" (document 01, The calls, Unmix).
@@ -46,6 +60,18 @@ module _ (m : ℕ) (s : Sent) where
 
   pub unmixed-of : 0 < m → (u : Invertible (entries s) m (s .pattern)) → Ring (entries s) m (s .readings) → Unmixed m s (mix (entries s) m (u .inverse) (s .readings))
   unmixed-of z u r = record { invertible = u; counts = mixed-counts z (u .is) r }
+
+  -- There are some behind all readings that can be heard.
+  pub counts-behind : 0 < m → Invertible (entries s) m (s .pattern) → Ring (entries s) m (s .readings) → (c : List ℕ) × (s .readings ≡ heard m s c)
+  counts-behind z u r = (_, sym (unmixed-of z u r .counts .readings))
+
+  -- Readings are all zero exactly when the tank is idle.
+  pub idle-exactly : (c : List ℕ) → Invertible (entries s) m (s .pattern) → (heard m s c ≡ zeros (entries s)) ↔ Idle (entries s) m c
+  unfolding heard
+  idle-exactly c u = (
+    (λ e. zeros-idle (sym (back (entries s) m c (u .is)) ∙ ap (mix (entries s) m (u .inverse)) e ∙ mix-zeros (entries s) m (u .inverse))),
+    (λ idle. sym (mix-reduce (entries s) m (s .pattern) c) ∙ ap (mix (entries s) m (s .pattern)) (idle-zeros idle) ∙ mix-zeros (entries s) m (s .pattern)),
+  )
 
   -- What was heard of counts c has the counts c behind it, modulo m.
   module _ (c : List ℕ) (positive : 0 < m) (h : s .readings ≡ heard m s c) where

@@ -58,7 +58,7 @@ pub record Unmixes (s : Sent) (M : Factored) (old : List ℕ) (answer : Answer) 
 abbrev pub same-order : Sent → Sent → Factored → List Check
 same-order s₁ s₂ M = listed-order (s₁ .pattern) (s₁ .readings ∷ s₂ .pattern ∷ s₂ .readings ∷ []) M []
 
--- "Yes exactly when the two unmixed count rings are equal entry by entry."
+-- "Yes exactly when the two unmixed count rings" are the same feeding, as document 02's second request has it.
 pub record Compared (m : ℕ) (s₁ s₂ : Sent) (same : Bool) : Type 0 where
   pub counts₁ : List ℕ
   pub counts₂ : List ℕ

@@ -3,6 +3,7 @@ pub mod Factored
 pub mod Heard
 pub mod Counts
 pub mod Same
+pub mod Idle
 pub mod Agree
 pub mod Singular
 pub mod Smallest

@@ -62,17 +62,22 @@ fn ask(loan: &mut Loan) -> Verdict {
 }
 
 /// Most legal readings are those of two feedings that are the same, or nearly so; some have the second
-/// side word for word like the first.
+/// side word for word like the first, and some have a side without a reading, or both.
 fn complete(case: &mut Case, faults: &[Number], random: &mut Random) {
     if !faults.is_empty() {
         return;
     }
-    match random.below(8) {
+    match random.below(10) {
         0 => (),
         1 => {
             let (f, y) = (case.rings[0].clone(), case.rings[1].clone());
             (case.rings[2], case.rings[3]) = (f, y);
         }
+        8 => {
+            let side = random.one_of(&[1, 3]);
+            case.rings[side].fill(0);
+        }
+        9 => [1, 3].into_iter().for_each(|side| case.rings[side].fill(0)),
         kind => {
             let counts = case.rings[1].clone();
             let others = if kind < 5 { nearly(&counts, case.m, random) } else { counts.clone() };
@@ -93,7 +98,12 @@ pub fn nearly(counts: &[u32], m: u32, random: &mut Random) -> Vec<u32> {
     others
 }
 
-/// "yes exactly when the two unmixed count rings are equal entry by entry"
+/// "Two count rings shall be the same feeding when they agree and at least one entry isn't zero."
+pub fn same(first: &[u32], second: &[u32]) -> bool {
+    first == second && first.iter().any(|&count| count != 0)
+}
+
+/// Of the two unmixed count rings, unless there is none.
 fn answer(case: &Case) -> Answer {
     let m = case.m;
     let behind = |index: usize| {
@@ -102,7 +112,7 @@ fn answer(case: &Case) -> Answer {
     };
     let verdict = match (behind(0), behind(2)) {
         (Err(reply), _) | (_, Err(reply)) => reply.into(),
-        (Ok(first), Ok(second)) => said(first == second),
+        (Ok(first), Ok(second)) => said(same(&first, &second)),
     };
     Answer { verdict, out: vec![] }
 }
@@ -124,7 +134,7 @@ fn figures() -> Vec<Figure> {
         // Each is compared with itself.
         verdict.same = usize::from(verdict.reply == DONE);
     }
-    let (f, dark) = (&[1, 2, 0], &[1, 1, 0]);
+    let (f, dark, idle) = (&[1, 2, 0], &[1, 1, 0], &[0, 0, 0]);
     let more = [
         (of([f, &[1, 2, 5], &[1, 0, 0], &[1, 0, 5]], 10), said(true)),
         (of([f, &[1, 2, 5], &[1, 0, 0], &[1, 0, 4]], 10), said(false)),
@@ -132,8 +142,16 @@ fn figures() -> Vec<Figure> {
         (of([&[1, 2], &[1, 0], &[1, 0], &[5, 6]], 8), said(true)),
         // One lifting round too few.
         (of([&[1, 2], &[1, 0], &[1, 0], &[1, 6]], 8), said(false)),
+        // An idle tank is no feeding, not even with itself; one count is enough for one, at any place.
+        (of([f, idle, &[1, 0, 0], idle], 10), said(false)),
+        (of([f, idle, f, idle], 10), said(false)),
+        (of([f, idle, &[1, 0, 0], &[0, 0, 1]], 10), said(false)),
+        (of([f, &[2, 0, 1], &[1, 0, 0], idle], 10), said(false)),
+        (of([f, &[1, 2, 0], &[1, 0, 0], &[1, 0, 0]], 10), said(true)),
+        (of([f, &[0, 1, 2], &[1, 0, 0], &[0, 1, 0]], 10), said(true)),
+        (of([f, &[2, 0, 1], &[1, 0, 0], &[0, 0, 1]], 10), said(true)),
         // Never yes or no, even where both sides are word for word the same.
-        (of([dark, &[0, 0, 0], dark, &[0, 0, 0]], 6), singular(1, 2).into()),
+        (of([dark, idle, dark, idle], 6), singular(1, 2).into()),
         (of([f, &[1, 2, 5], &[3, 2, 0], &[1, 2, 5]], 10), singular(3, 5).into()),
         (of([&[3, 2, 0], &[1, 2, 5], dark, &[1, 2, 5]], 10), singular(1, 5).into()),
     ];

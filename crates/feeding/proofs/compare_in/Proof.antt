@@ -42,8 +42,8 @@ count-requires-2 c κs =
     let pre = given one .pre in
     second-ready (pre .both) (length-take-le _ _ (pre .second-room))
 
-same-requires : tie.Need-same-requires
-same-requires c κs =
+same-counts-requires : tie.Need-same-counts-requires
+same-counts-requires c κs =
     let told = c .before .before in
     let two = second-side (told .before .before) in
     let inverted = two .before .before in
@@ -73,7 +73,7 @@ returns-3 c =
     let two = second-side (told .before .before) in
     let inverted = two .before .before in
     let one = first-side (inverted .before .before) in
-    compared (given one .pre .both) (one .count .ensures) (inverted .enum-told .given .1) (two .count2 .ensures) (told .enum-told2 .given .1) (last .same .ensures)
+    compared (given one .pre .both) (one .count .ensures) (inverted .enum-told .given .1) (two .count2 .ensures) (told .enum-told2 .given .1) (last .same-counts .ensures)
 
 pub compare-in-spec : {M : Type 1} → statement M
 compare-in-spec =
@@ -93,7 +93,7 @@ compare-in-spec =
     (λ c κs. search needs)
     (λ c κs. search needs)
     (λ c. search needs)
-    same-requires
+    same-counts-requires
     (λ c. search needs)
     (λ c. search needs)
     returns
