@@ -1,5 +1,7 @@
 // Sums of products along a row, four at a time: what the product of rings is made of. A sum is added first and reduced last; where it has more than BLOCK
 // products, it is reduced once a block.
+#![tactic(auto)]
+
 ghost use Rattle.std.specs.Prelude.{◌≡◌, ◌+◌, ◌*◌, ◌%◌, ◌^◌, ◌<◌};
 ghost use Rattle.along.specs.Along.{along};
 ghost use Rattle.along.specs.Four.{Four, SumsFit, ReducedSums};

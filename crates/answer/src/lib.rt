@@ -1,4 +1,6 @@
 // What a call can answer: refusals and answers, by name and in the paper's numbers.
+#![tactic(auto)]
+
 ghost use Rattle.std.specs.Prelude.{◌≡◌};
 ghost use Rattle.answer.specs.First.{or};
 ghost use Rattle.answer.specs.Refuse.{refuse_if};

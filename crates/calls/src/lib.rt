@@ -1,4 +1,6 @@
 // The calls mix, reduce and fold of document 01.
+#![tactic(auto)]
+
 ghost use Rattle.std.specs.Prelude.{◌≡◌, ◌+◌, ◌*◌, length};
 ghost use Rattle.sums.specs.Sum.{sum};
 ghost use Rattle.sums.specs.Table.{at};

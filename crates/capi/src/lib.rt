@@ -1,5 +1,7 @@
 // The calls for C, Rust and Python: no call has a requires, each keeps the contract of the call behind it and replies in the paper's numbers.
 // include/dowelbrook.h declares them.
+#![tactic(auto)]
+
 ghost use Rattle.std.specs.Prelude.{◌≡◌};
 ghost use Rattle.answer.specs.Reply.{reply, Replied};
 ghost use Rattle.calls.specs.Promises.{Mixes, Reduces, Folds};

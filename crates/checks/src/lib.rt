@@ -1,4 +1,6 @@
 // The checks of document 01's table but for that of a factor list, and their order in a call on rings.
+#![tactic(auto)]
+
 ghost use Rattle.std.specs.Prelude.{◌≡◌, [], ◌∷◌, ◌<◌};
 ghost use Rattle.limits.specs.Limits.{most_entries, least_modulus, most_modulus};
 ghost use Rattle.answer.specs.First.{or, first};

@@ -2,6 +2,8 @@
 //
 // a is laid out backwards, and b around and around; both in words of 64 bits. Entry k of the product is then a backwards
 // along the part of b that starts at k + 1: no place wraps inside a sum, and four sums at a time share what they read.
+#![tactic(auto)]
+
 ghost use Rattle.std.specs.Prelude.{◌≡◌, ◌++◌, ◌+◌, ◌%◌, ◌^◌, ◌<◌, ◌≤◌, length, drop, set};
 ghost use Rattle.sums.specs.Table.{table};
 ghost use Rattle.ring.specs.Mix.{mix};

@@ -1,4 +1,6 @@
 // What a sheet comes to by what it holds: its rings are checked, the pattern is inverted or the readings unmixed, and the page put into a lent buffer.
+#![tactic(auto)]
+
 ghost use Rattle.std.specs.Prelude.{◌≡◌, ◌≤◌, length};
 ghost use Rattle.answer.specs.First.{first};
 ghost use Rattle.page.specs.Outcome.{held_order};

@@ -1,4 +1,6 @@
 // One division of polynomials modulo m, with the row of cofactors alongside.
+#![tactic(auto)]
+
 ghost use Rattle.std.specs.Prelude.{◌≡◌, ◌∷◌, ◌-◌};
 ghost use Rattle.sums.specs.Table.{at};
 ghost use Rattle.division.specs.Division.{Dividing, Divided};

@@ -1,4 +1,6 @@
 // The extended Euclid on a polynomial and x^n - 1 modulo m.
+#![tactic(auto)]
+
 ghost use Rattle.std.specs.Prelude.{length};
 ghost use Rattle.sums.specs.Table.{at};
 ghost use Rattle.modular.specs.Inverse.{InverseOf};

@@ -1,4 +1,6 @@
 // The check of a factor list: 5 by the lists' lengths, then 10, 11 and 12 entry by entry, then 13.
+#![tactic(auto)]
+
 ghost use Rattle.std.specs.Prelude.{◌≡◌, length};
 ghost use Rattle.modular.specs.FactorList.{Rising};
 ghost use Rattle.answer.specs.First.{or, first};

@@ -1,4 +1,6 @@
 // The calls unmix and same feeding of document 01, and unmixing without its checks.
+#![tactic(auto)]
+
 ghost use Rattle.std.specs.Prelude.{◌≡◌, ◌↔◌, true, length};
 ghost use Rattle.answer.specs.First.{first};
 ghost use Rattle.pattern.specs.Sent.{sent};

@@ -1,4 +1,6 @@
 // The fields of document 01's pattern sheet: the table of tags, and the checks of one field.
+#![tactic(auto)]
+
 ghost use Rattle.std.specs.Prelude.{◌≡◌, List, [], ◌∷◌, cond, not, ◌&&◌, ◌||◌, ◌+◌, ◌≤◌, ◌<◌, ◌%◌, eqb, ltb, leb, length};
 ghost use Rattle.sums.specs.Table.{at as entry};
 ghost use Rattle.limits.specs.Limits.{header_bytes};
@@ -10,11 +12,11 @@ ghost use Rattle.fields.specs.Checks.{is_unknown, is_wrong, above_tags, value_or
 ghost use Rattle.fields.specs.Kept.{header, kept, WhenKept};
 
 use answer::{Case, Check, refuse_if};
-use octets::{byte_at, short_at, wide};
 use limits::{
     ENTRY_BYTES, FACTOR_BYTES, HEADER_BYTES, MODULUS_BYTES, MOST_ENTRY_BYTES, MOST_FACTOR_BYTES,
     VERSION_BYTES,
 };
+use octets::{byte_at, short_at, wide};
 
 // A bound above every tag, since a tag is one byte.
 const ABOVE_TAGS: usize = 256;

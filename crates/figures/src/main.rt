@@ -1,5 +1,7 @@
 // The figures of document 01 that are run and not proved: the limits of n, of m and of an entry, the matrix applied to a column, one lifting round,
 // and factor lists.
+#![tactic(auto)]
+
 use answer::{Answer, reply_of};
 use show::{entries, number, text};
 

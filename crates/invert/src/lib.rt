@@ -1,4 +1,6 @@
 // The call invert of document 01, and the same without its checks.
+#![tactic(auto)]
+
 ghost use Rattle.std.specs.Prelude.{◌≡◌, ◌^◌};
 ghost use Rattle.modular.specs.FactorList.{powers};
 ghost use Rattle.answer.specs.First.{first};

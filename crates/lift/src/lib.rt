@@ -1,4 +1,6 @@
 // From inverses modulo primes to inverses modulo their powers, and from those to one modulo their product.
+#![tactic(auto)]
+
 ghost use Rattle.std.specs.Prelude.{◌≡◌, ◌+◌, ◌-◌, ◌*◌, ◌%◌, ◌^◌, min, length};
 ghost use Rattle.sums.specs.Table.{at, table};
 ghost use Rattle.ring.specs.Inverse.{Inverse};

@@ -1,4 +1,5 @@
 // The limits of document 01, for the code; specs/Limits.antt has the same names for contracts.
+#![tactic(auto)]
 
 pub const MOST_ENTRIES: usize = 1024;
 

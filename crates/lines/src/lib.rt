@@ -1,5 +1,7 @@
 // Lines of words and numbers, written into a lent buffer. Each function writes from an offset on and answers the offset after
 // the last byte that it wrote.
+#![tactic(auto)]
+
 ghost use Rattle.std.specs.Prelude.{◌≡◌, [], ◌∷◌};
 ghost use Rattle.octets.specs.Put.{PutsBytes};
 ghost use Rattle.lines.specs.Decimal.{glyph};

@@ -1,4 +1,6 @@
 // Numbers modulo a prime and modulo any m.
+#![tactic(auto)]
+
 // Whether a number is a prime.
 pub mod prime;
 

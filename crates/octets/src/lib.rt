@@ -1,5 +1,7 @@
 // Bytes in slices: numbers read from them, and bytes put into a lent buffer one after another. A function that puts writes from
 // an offset on and answers the offset after the last byte that it wrote.
+#![tactic(auto)]
+
 ghost use Rattle.std.specs.Prelude.{◌≡◌, [], ◌∷◌, ◌+◌, ◌≤◌, ◌<◌, length};
 ghost use Rattle.sums.specs.Table.{at as entry};
 ghost use Rattle.octets.specs.Numbers.{big_endian};

@@ -1,4 +1,6 @@
 // The pages of the program unmix, put into a lent buffer. Each function writes from the buffer's start on and answers the offset after the last byte.
+#![tactic(auto)]
+
 ghost use Rattle.std.specs.Prelude.{◌≡◌, ◌≤◌, length};
 ghost use Rattle.std.proofs.Math.Option.{none, some};
 ghost use Rattle.lines.specs.Lines.{after};

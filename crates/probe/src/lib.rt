@@ -1,5 +1,7 @@
 // Numbers and polynomials modulo p for the comparison and the benchmark: each function asks nothing, and answers "refused" where the one behind it
 // asks for more.
+#![tactic(auto)]
+
 ghost use Rattle.std.specs.Prelude.{◌≡◌};
 ghost use Rattle.modular.specs.Prime.{TellsPrime};
 ghost use Rattle.modular.specs.Rounds.{Rounds};

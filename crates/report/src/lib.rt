@@ -1,4 +1,6 @@
 // What a sheet comes to, as text: the work of the program unmix.
+#![tactic(auto)]
+
 ghost use Rattle.sheet.specs.Sheets.{sheet_of};
 ghost use Rattle.sheet.specs.Held.{held};
 ghost use Rattle.page.specs.Outcome.{Comes};

@@ -1,1 +1,2 @@
 // Rings modulo m and their laws: definitions and theorems only.
+#![tactic(auto)]

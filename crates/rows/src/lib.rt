@@ -1,4 +1,6 @@
 // Rows of numbers below a modulus p: multiples by a fixed factor, with no division for an entry.
+#![tactic(auto)]
+
 ghost use Rattle.std.specs.Prelude.{◌≡◌, ◌+◌, ◌*◌, ◌%◌, ◌<◌, length};
 ghost use Rattle.rows.specs.Row.{Prepared, LinearAddable, Scalable, times, times_linear, terms, plus};
 ghost use Rattle.rows.specs.Near.{Near, Entry, TwoEntries};

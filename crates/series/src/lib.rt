@@ -1,1 +1,2 @@
 // Polynomials modulo m, and modulo x^n - 1 and m: definitions and laws only.
+#![tactic(auto)]

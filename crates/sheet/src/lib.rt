@@ -1,4 +1,6 @@
 // The reader of document 01's pattern sheet: it walks over the fields, and tells what the sheet holds and where.
+#![tactic(auto)]
+
 ghost use Rattle.std.specs.Prelude.{◌≡◌, [], true, false, ◌+◌, ◌≤◌, length};
 ghost use Rattle.sums.specs.Table.{table};
 ghost use Rattle.fields.specs.Kept.{kept, WhenKept};
@@ -7,12 +9,12 @@ ghost use Rattle.sheet.specs.Sheets.{sheet_of, IsPart};
 ghost use Rattle.sheet.specs.Entries.{number_of, exponent_of, HoldsNumbers};
 
 use answer::{Case, Check, refuse_if};
-use octets::number_at;
 use fields::{
     Fields, Header, Part, absent, check_end, check_value, header_at, nothing_yet, version_of,
     with_field,
 };
 use limits::HEADER_BYTES;
+use octets::number_at;
 
 // Where a walk over a sheet stands: at the offset of the next field, or, not going any further, with what a check found.
 #[derive(Drop)]

@@ -1,4 +1,6 @@
 // Text, numbers and rings on standard output, for the small programs.
+#![tactic(auto)]
+
 use io::print_decimal;
 use libc::STDOUT_FILENO;
 

@@ -1,4 +1,6 @@
 // Small loops on plain slices that several crates need.
+#![tactic(auto)]
+
 ghost use Rattle.std.specs.Prelude.{◌≡◌, ◌++◌, ◌*◌, ◌≤◌, length, drop};
 ghost use Rattle.sums.specs.Table.{at, table};
 ghost use Rattle.ring.specs.Reduce.{reduce};

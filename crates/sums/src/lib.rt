@@ -1,1 +1,2 @@
 // Sums and tables over an index: definitions and laws only.
+#![tactic(auto)]

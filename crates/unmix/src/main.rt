@@ -1,4 +1,6 @@
 // The program unmix: a sheet from standard input, its text to standard output.
+#![tactic(auto)]
+
 ghost use Rattle.std.specs.Prelude.{◌≡◌, length};
 ghost use Rattle.limits.specs.Limits.{deciding_bytes};
 
