@@ -13,7 +13,7 @@ use words::wide;
 const BLOCK: usize = 1024;
 
 // Four sums.
-#[derive(Drop)]
+#[derive(Clone, Copy)]
 pub struct Quad {
     pub s0: u64,
     pub s1: u64,

@@ -8,7 +8,7 @@ ghost use Rattle.answer.specs.Numbers.{row, refusal_row};
 ghost use Rattle.answer.specs.Reply.{tell, refusal_reply, reply};
 
 // The refusals of documents 01 and 02 by name: those of document 01's table, those of an entry of a factor list and of its powers, then those of a sheet.
-#[derive(Drop)]
+#[derive(Clone, Copy)]
 pub enum Case {
     Empty,
     Large,
@@ -30,7 +30,7 @@ pub enum Case {
 }
 
 // What a number tells besides.
-#[derive(Drop)]
+#[derive(Clone, Copy)]
 pub enum Told {
     Nothing,
     Ring,
@@ -40,14 +40,14 @@ pub enum Told {
 }
 
 // A row of the table of numbers.
-#[derive(Drop)]
+#[derive(Clone, Copy)]
 pub struct Row {
     pub number: u32,
     pub told: Told,
 }
 
 // A refusal, with the ring and the place that it tells; 0 where it tells none. That of an entry of a factor list has the entry's place, a sheet's its offset.
-#[derive(Drop)]
+#[derive(Clone, Copy)]
 pub struct Refusal {
     pub case: Case,
     pub ring: usize,
@@ -55,14 +55,14 @@ pub struct Refusal {
 }
 
 // What a check finds: nothing, or a refusal.
-#[derive(Drop)]
+#[derive(Clone, Copy)]
 pub enum Check {
     Passed,
     Refused(Refusal),
 }
 
 // The answer of a call that fills an output; the output stands beside it.
-#[derive(Drop)]
+#[derive(Clone, Copy)]
 pub enum Answer {
     Done,
     Singular { ring: usize, prime: u32 },
@@ -71,7 +71,7 @@ pub enum Answer {
 
 // An answer in the paper's numbers, for C and for print.
 #[repr(C)]
-#[derive(Drop)]
+#[derive(Clone, Copy)]
 pub struct Reply {
     pub number: u32,
     pub prime: u32,

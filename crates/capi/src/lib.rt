@@ -74,7 +74,7 @@ fn flag(test: bool) -> usize
 
 // A reply, and whether the feedings are the same: 1 or 0.
 #[repr(C)]
-#[derive(Drop)]
+#[derive(Clone, Copy)]
 pub struct Judgement {
     pub number: u32,
     pub prime: u32,
@@ -119,7 +119,7 @@ pub extern "C" fn dowelbrook_same_feeding(
 
 // What a sheet holds and where, or the refusal in the paper's numbers. Offsets count from the sheet's first byte.
 #[repr(C)]
-#[derive(Drop)]
+#[derive(Clone, Copy)]
 pub struct SheetReply {
     pub number: u32,
     pub modulus: u32,

@@ -10,7 +10,7 @@ use rows::{add_linear, plus_multiple, quotient};
 use words::wide;
 
 // (low + high x) x^shift, two terms of a quotient. w and v are what rows ask beside low and high.
-#[derive(Drop)]
+#[derive(Clone, Copy)]
 struct Terms {
     low: u32,
     w: u32,

@@ -18,21 +18,21 @@ use slices::{copy, remainders};
 const PLACES: usize = MOST_ENTRIES + 2;
 
 // What is in the output: the inverse of f, or the ghost polynomial, where f and x^n - 1 share a factor of the degree told.
-#[derive(Drop)]
+#[derive(Clone, Copy)]
 pub enum Outcome {
     Inverted,
     Shared(usize),
 }
 
 // That, or a divisor of the modulus, which is then no prime.
-#[derive(Drop)]
+#[derive(Clone, Copy)]
 pub enum Attempt {
     Solved(Outcome),
     Divisor(u32),
 }
 
 // What a division leaves: how many coefficients, or what the divisor's leading number shares with the modulus.
-#[derive(Drop)]
+#[derive(Clone, Copy)]
 enum Rest {
     Left(usize),
     Stuck(u32),

@@ -20,7 +20,7 @@ use limits::MOST_ENTRIES;
 use slices::same;
 
 // The answer of same feeding, and beside it whether the two feedings are the same.
-#[derive(Drop)]
+#[derive(Clone, Copy)]
 pub struct Verdict {
     pub answer: Answer,
     pub same: bool,

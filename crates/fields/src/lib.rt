@@ -22,7 +22,7 @@ use octets::{byte_at, short_at, wide};
 const ABOVE_TAGS: usize = 256;
 
 // Where the value of a field lies in its sheet. A field that has not come is an empty part, not present.
-#[derive(Drop)]
+#[derive(Clone, Copy)]
 pub struct Part {
     pub present: bool,
     pub from: usize,
@@ -30,14 +30,14 @@ pub struct Part {
 }
 
 // The first three bytes of a field.
-#[derive(Drop)]
+#[derive(Clone, Copy)]
 pub enum Header {
     Short,
     Whole { tag: u8, len: usize },
 }
 
 // How a tag and a length stand to the table of tags.
-#[derive(Drop)]
+#[derive(Clone, Copy)]
 pub enum Fit {
     Unknown,
     Wrong,
@@ -45,7 +45,7 @@ pub enum Fit {
 }
 
 // The fields that have come: the last one's tag, and where each one's value lies.
-#[derive(Drop)]
+#[derive(Clone, Copy)]
 pub struct Fields {
     pub last: u8,
     pub version: Part,

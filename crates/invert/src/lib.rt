@@ -20,14 +20,14 @@ use modular::inverse::{Found, inverse};
 use slices::{clear, copy, multiply};
 
 // What inverting comes to: the inverse, or the ghost of the smallest singular prime.
-#[derive(Drop)]
+#[derive(Clone, Copy)]
 pub enum Inversion {
     Inverted,
     Ghost(u32),
 }
 
 // What one prime power comes to: the product of all powers so far, or that its prime is singular.
-#[derive(Drop)]
+#[derive(Clone, Copy)]
 enum Progress {
     Joined(u32),
     Dark,

@@ -3,7 +3,7 @@ ghost use Rattle.modular.specs.Inverse.{InverseOf, Nonzero, Lead};
 ghost use Rattle.modular.specs.Finds.{Finds};
 
 // The inverse of a number, or the greatest common divisor with the modulus where there is none.
-#[derive(Drop)]
+#[derive(Clone, Copy)]
 pub enum Found {
     Inverse(u32),
     Shares(u32),

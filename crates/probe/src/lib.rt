@@ -45,7 +45,7 @@ pub extern "C" fn probe_factors(primes: &[u32], exponents: &[u8], m: u32) -> Rep
 
 // The inverse, or the greatest common divisor.
 #[repr(C)]
-#[derive(Drop)]
+#[derive(Clone, Copy)]
 pub struct Number {
     pub kind: u32,
     pub value: u32,
@@ -82,7 +82,7 @@ pub extern "C" fn probe_rounds(k: u32) -> u32
 
 // The inverse, or the ghost with the degree of the shared factor.
 #[repr(C)]
-#[derive(Drop)]
+#[derive(Clone, Copy)]
 pub struct Solution {
     pub kind: u32,
     pub zero: u32,

@@ -17,7 +17,7 @@ use limits::HEADER_BYTES;
 use octets::number_at;
 
 // Where a walk over a sheet stands: at the offset of the next field, or, not going any further, with what a check found.
-#[derive(Drop)]
+#[derive(Clone, Copy)]
 struct Step {
     at: usize,
     found: Fields,
@@ -26,7 +26,7 @@ struct Step {
 }
 
 // What a sheet holds, or why it is refused.
-#[derive(Drop)]
+#[derive(Clone, Copy)]
 pub struct Sheet {
     pub verdict: Check,
     pub modulus: u32,
@@ -88,7 +88,7 @@ fn started() -> Step
 }
 
 // A walk over a sheet: its bytes, and the offset of the next field.
-#[derive(Drop)]
+#[derive(Clone, Copy)]
 struct Walk<'a> {
     bytes: &'a [u8],
     at: usize,
