@@ -1,0 +1,42 @@
+-- The goals of `calls::fold_parts` that the search leaves.
+use mathlib.Core.Path.{◌≡◌, refl}
+use mathlib.Core.List.{List}
+use Prim.Native.Nat.{ℕ, ◌+◌, ◌-◌, ◌*◌, ◌/◌, ◌%◌}
+use native.Mathlib.Nat.{mod-lt, div-mul_cancel}
+use lib.ListN.{length, length-set}
+use Rattle.sums.specs.Sum.{sum}
+use Rattle.sums.specs.Table.{at}
+use Rattle.sums.proofs.Fill.{fill_none, fill_step, fill_all}
+use Rattle.ring.proofs.Fold as laws
+use native.Mathlib.Omega.{arith}
+use Rattle.calls.proofs.fold_parts.Invariants.{entry}
+use Rattle.calls.proofs.fold_parts.Goals as goal
+
+pub loop-k-init : goal.loop-k-init
+loop-k-init c = (omega arith, fill_none _ _, refl)
+
+pub sum_parts-requires : goal.sum_parts-requires
+sum_parts-requires c =
+    record { few = c.requires.few; whole = div-mul_cancel (length c.args.out.now) c.requires.onto; inside = c.loop-k-test.true }
+
+pub overflow_cast-out : goal.overflow_cast-out
+overflow_cast-out c = omega (arith, mod-lt c.sum_parts.result {m = c.wide.result} (omega arith))
+
+pub loop-k-preserved : goal.loop-k-preserved
+loop-k-preserved c =
+    let a = c.args.a.now in
+    let step = length c.args.out.now in
+    let k = c.loop-k.k in (
+      omega arith,
+      cc (fill_step (entry a step (length a / step) c.args.m) c.args.out.now k (omega arith)),
+      simp length-set (omega arith),
+    )
+
+pub returns : goal.returns
+returns c =
+    let a = c.args.a.now in
+    let step = length c.args.out.now in
+    let e : c.loop-k.k ≡ step = omega arith in
+    let done = fill_all (entry a step (length a / step) c.args.m) c.args.out.now c.loop-k.k e in
+    let law = rw (div-mul_cancel step c.requires.onto) at (laws.fold_parts (length a / step) step c.args.m a) in
+    cc (done, law)
