@@ -15,9 +15,7 @@ use Rattle.sheet.specs.Sheets.{sheet_of}
 use Rattle.fields.specs.declared.Part.{Part}
 use Rattle.sheet.specs.declared.Step.{Step}
 use Rattle.fields.proofs.Table.{modulus_inside}
-use borrow.Author.Rules.{rules}
-use Rattle.sheet.proofs.finished.Statement.{statement}
-use Rattle.sheet.proofs.finished.Tie as tie
+use Rattle.sheet.proofs.finished.Goals as goal
 
 module _ (s : List ℕ) {last : Step} (h : Ended s last) where
   passed : last.check ≡ Passed → reading s ≡ accepted h.come
@@ -34,29 +32,14 @@ module _ (s : List ℕ) {last : Step} (h : Ended s last) where
       → record { verdict = Refused r; modulus = 0; factors = none; pattern = none; readings = none } ≡ sheet_of s
   refuses e d = rw (h.reads, e, d)
 
-enum_told : tie.Need-enum-told
-enum_told c = search rules
+pub number_at-requires : goal.number_at-requires
+number_at-requires c =
+    four-more c.args.bytes.now c.requires c.in-Passed.is
 
-number-at-requires : tie.Need-number-at-requires
-number-at-requires c κs =
-    let known = c.before.before.before.before in
-    let start = known.before.before.before.before in
-    four-more start.args.bytes.now start.requires known.enum_told.given.1
+pub returns-in-Passed : goal.returns-in-Passed
+returns-in-Passed c =
+    tells c.args.bytes.now c.requires c.in-Passed.is c.number_at.ensures
 
-returns : tie.Need-returns
-returns c =
-    let modulus = c.before in
-    let known = modulus.before.before.before.before in
-    let start = known.before.before.before.before in
-    tells start.args.bytes.now start.requires known.enum_told.given.1 c.number_at.ensures
-
-returns-2 : tie.Need-returns-2
-returns-2 c =
-    let known = c.before.before in
-    let start = known.before.before.before.before in
-    refuses start.args.bytes.now start.requires known.check.given.1 c.absent.ensures
-
-pub finished-spec : {M : Type 1} → statement M
-finished-spec =
-    tie.close
-    (tie.spec enum_told number-at-requires (λ c. search rules) (λ c κs. search rules) returns returns-2)
+pub returns-in-Refused : goal.returns-in-Refused
+returns-in-Refused c =
+    refuses c.args.bytes.now c.requires c.in-Refused.is c.absent-none.ensures

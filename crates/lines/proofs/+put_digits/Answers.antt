@@ -1,0 +1,14 @@
+-- The goals of `lines::put_digits` that the search leaves: the last digit is written after the tenth's.
+use native.Mathlib.Omega.{arith}
+use native.Mathlib.Nat.{mod-lt}
+use Rattle.lines.proofs.Putting.{puts_digit, last_inside, puts_last}
+use Rattle.lines.proofs.+put_digits.Goals as goal
+
+pub returns-then-x-lt10 : goal.returns-then-x-lt10
+returns-then-x-lt10 t c = puts_digit c.if-x-lt10.true c.put_digit.ensures
+
+pub put_digit-requires-2 : goal.put_digit-requires-2
+put_digit-requires-2 t c = record { low = mod-lt c.args.x (omega arith); inside = last_inside c.if-x-lt10.false c.put_digits-end.ensures c.requires }
+
+pub returns : goal.returns
+returns t c = puts_last c.if-x-lt10.false c.put_digits-end.ensures c.put_digit-2.ensures
