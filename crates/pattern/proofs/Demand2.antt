@@ -23,7 +23,8 @@ use Rattle.pattern.specs.Factored.{Factored}
 use Rattle.pattern.specs.Singular as pattern
 use Rattle.pattern.specs.Smallest.{Smallest}
 use Rattle.pattern.specs.Silent.{Silent}
-use Rattle.pattern.specs.Promises.{invert_order, unmix_order, same_order, Inverts, Unmixes, SameFeeding}
+use Rattle.pattern.specs.Counts.{Unmixed}
+use Rattle.pattern.specs.Promises.{invert_order, unmix_order, same_order, ShowsGhost, LeavesOutput, Compared, NamesRing, Inverts, Unmixes, SameFeeding}
 use Rattle.pattern.proofs.Granted.{invert_granted, unmix_granted, same_granted}
 use Rattle.pattern.proofs.Patterns.{inverse_or_smallest, singular_none, smallest_none}
 use Rattle.pattern.proofs.Ghosts.{ghost_ring, ghost_some, ghost_silent}
@@ -58,20 +59,20 @@ module _ (f : List ℕ) (M : Factored) (old : List ℕ) (ok : first (invert_orde
   lacks s = smallest_none (length f) (invert_granted f M (length old) ok).0.legal.some f refl s
 
   pub invert_singular : ((reply a).number ≡ 9) ↔ (¬ Invertible (length f) M.modulus f)
-  invert_singular = nine_exactly _ _ _ old ok (λ g i. record { inverse = g; is = i }) (λ r p x s. lacks s.smallest) a new h.meets
+  invert_singular = nine_exactly (invert_order f M (length old)) (Inverse (length f) M.modulus f) (ShowsGhost f M.modulus) old ok (λ g i. record { inverse = g; is = i }) (λ r p x s. lacks s.smallest) a new h.meets
 
   pub invert_done : (a ≡ Done) ↔ Invertible (length f) M.modulus f
-  invert_done = done_when _ _ _ old ok (λ g i. record { inverse = g; is = i }) (λ r p x s. lacks s.smallest) a new h.meets
+  invert_done = done_when (invert_order f M (length old)) (Inverse (length f) M.modulus f) (ShowsGhost f M.modulus) old ok (λ g i. record { inverse = g; is = i }) (λ r p x s. lacks s.smallest) a new h.meets
 
 pub unmix_singular : (s : Sent) (M : Factored) (old : List ℕ) → first (unmix_order s M (length old)) ≡ Passed → (a : Answer) (new : List ℕ)
     → Unmixes s M old a new → ((reply a).number ≡ 9) ↔ (¬ Invertible (entries s) M.modulus s.pattern)
 unmix_singular s M old ok a new h =
-    nine_exactly _ _ _ old ok (λ c u. u.invertible) (λ r p x t. smallest_none (entries s) (unmix_granted s M (length old) ok).0.legal.some s.pattern refl t.smallest) a new h.meets
+    nine_exactly (unmix_order s M (length old)) (Unmixed M.modulus s) (LeavesOutput s M.modulus old) old ok (λ c u. u.invertible) (λ r p x t. smallest_none (entries s) (unmix_granted s M (length old) ok).0.legal.some s.pattern refl t.smallest) a new h.meets
 
 pub same_singular : (s₁ s₂ : Sent) (M : Factored) → first (same_order s₁ s₂ M) ≡ Passed → (a : Answer) (same : Bool) → SameFeeding s₁ s₂ M a same
     → ((reply a).number ≡ 9) ↔ (¬ (Invertible (entries s₁) M.modulus s₁.pattern × Invertible (entries s₂) M.modulus s₂.pattern))
 same_singular s₁ s₂ M ok a same h =
-    nine_exactly _ _ _ false ok (λ x c. (c.unmixed₁.invertible, c.unmixed₂.invertible)) (λ r p x t. named_none s₁ s₂ M (same_granted s₁ s₂ M ok) t.lowest) a same h.meets
+    nine_exactly (same_order s₁ s₂ M) (Compared M.modulus s₁ s₂) (NamesRing M.modulus s₁ s₂) false ok (λ x c. (c.unmixed₁.invertible, c.unmixed₂.invertible)) (λ r p x t. named_none s₁ s₂ M (same_granted s₁ s₂ M ok) t.lowest) a same h.meets
 
 -- ---- the ghost
 

@@ -19,7 +19,7 @@ use Rattle.pattern.specs.Same.{Same}
 use Rattle.pattern.specs.Smallest.{Smallest}
 use Rattle.pattern.specs.Counts.{Unmixed}
 use Rattle.pattern.specs.Granted.{Granted, BothGranted}
-use Rattle.pattern.specs.Promises.{ShowsGhost, Inverts, LeavesOutput, Unmixes, Compared, NamesRing, SameFeeding}
+use Rattle.pattern.specs.Promises.{invert_order, unmix_order, same_order, ShowsGhost, Inverts, LeavesOutput, Unmixes, Compared, NamesRing, SameFeeding}
 use Rattle.pattern.proofs.Granted.{invert_granted, unmix_granted, same_granted}
 use Rattle.pattern.proofs.Patterns.{inverse_or_smallest, ghost_of}
 use Rattle.pattern.proofs.Unmixing.{unmixed_of}
@@ -45,7 +45,7 @@ module _ (f : List ℕ) (M : Factored) (old : List ℕ) where
       pick (inr (p, s)) = let h = ghost_of (length f) g.legal.some f refl s in inr (1, p, h.0, record { one = refl; smallest = s; ghost = h.1 })
 
   pub invert_answers : (a : Answer) × (new : List ℕ) × Inverts f M old a new
-  invert_answers = let (a, new, h) = some_answer _ _ _ old (λ e. inverted (invert_granted f M (length old) e).0) in (a, new, record { meets = h })
+  invert_answers = let (a, new, h) = some_answer (invert_order f M (length old)) (Inverse (length f) M.modulus f) (ShowsGhost f M.modulus) old (λ e. inverted (invert_granted f M (length old) e).0) in (a, new, record { meets = h })
 
 -- ---- unmix
 
@@ -58,7 +58,7 @@ module _ (s : Sent) (M : Factored) (old : List ℕ) where
       pick (inr (p, t)) = inr (1, p, old, record { one = refl; smallest = t; untouched = refl })
 
   pub unmix_answers : (a : Answer) × (new : List ℕ) × Unmixes s M old a new
-  unmix_answers = let (a, new, h) = some_answer _ _ _ old (λ e. unmixed (unmix_granted s M (length old) e).0) in (a, new, record { meets = h })
+  unmix_answers = let (a, new, h) = some_answer (unmix_order s M (length old)) (Unmixed M.modulus s) (LeavesOutput s M.modulus old) old (λ e. unmixed (unmix_granted s M (length old) e).0) in (a, new, record { meets = h })
 
 -- ---- same feeding
 
@@ -93,4 +93,4 @@ module _ (s₁ s₂ : Sent) (M : Factored) where
       pick (inl u) (inl v) = counts _ _ (unmixed_of m s₁ (positive g.first_side) u g.first_side.legal.rings.0) (unmixed_of m s₂ (positive g.second_side) v g.second_side.legal.rings.0)
 
   pub same_answers : (a : Answer) × (same : Bool) × SameFeeding s₁ s₂ M a same
-  same_answers = let (a, same, h) = some_answer _ _ _ false (λ e. compared (same_granted s₁ s₂ M e)) in (a, same, record { meets = h })
+  same_answers = let (a, same, h) = some_answer (same_order s₁ s₂ M) (Compared M.modulus s₁ s₂) (NamesRing M.modulus s₁ s₂) false (λ e. compared (same_granted s₁ s₂ M e)) in (a, same, record { meets = h })

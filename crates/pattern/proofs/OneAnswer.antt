@@ -8,7 +8,7 @@ use mathlib.Core.Bool.{Bool, true, false}
 use mathlib.Core.List.{List}
 use lib.ListN.{length}
 use Rattle.sums.proofs.Tests.{one_saying}
-use Rattle.ring.specs.Inverse.{Invertible}
+use Rattle.ring.specs.Inverse.{Inverse, Invertible}
 use Rattle.ring.proofs.Inverses.{inverse_unique}
 use Rattle.answer.specs.First.{first}
 use Rattle.answer.specs.declared.Check.TheVariants.{Passed}
@@ -22,7 +22,7 @@ use Rattle.pattern.specs.Same.{Same}
 use Rattle.pattern.specs.Smallest.{Smallest}
 use Rattle.pattern.specs.Ghost.{Ghost}
 use Rattle.pattern.specs.Granted.{BothGranted}
-use Rattle.pattern.specs.Promises.{invert_order, Inverts, Unmixes, Compared, RingOne, RingThree, SameFeeding}
+use Rattle.pattern.specs.Promises.{invert_order, unmix_order, same_order, ShowsGhost, LeavesOutput, NamesRing, Inverts, Unmixes, Compared, RingOne, RingThree, SameFeeding}
 use Rattle.pattern.proofs.Granted.{invert_granted, unmix_granted, same_granted}
 use Rattle.pattern.proofs.Patterns.{one_smallest, smallest_none}
 use Rattle.pattern.proofs.Ghosts.{one_ghost}
@@ -32,7 +32,7 @@ use Rattle.pattern.proofs.Unmixing.{one_unmixed}
 
 pub invert_one_answer : (f : List ℕ) (M : Factored) (old : List ℕ) {a b : Answer} {x y : List ℕ} → Inverts f M old a x → Inverts f M old b y → (a ≡ b) × (x ≡ y)
 invert_one_answer f M old h k =
-    one_answer _ _ _ old
+    one_answer (invert_order f M (length old)) (Inverse (length f) M.modulus f) (ShowsGhost f M.modulus) old
     (λ e x y i j. inverse_unique (length f) M.modulus f i j)
     (λ e x y r p i s. smallest_none (length f) (some e) f refl s.smallest (record { inverse = x; is = i }))
     (λ e x y r p r' p' s t. let q = one_smallest s.smallest t.smallest in (
@@ -48,7 +48,7 @@ invert_one_answer f M old h k =
 
 pub unmix_one_answer : (s : Sent) (M : Factored) (old : List ℕ) {a b : Answer} {c d : List ℕ} → Unmixes s M old a c → Unmixes s M old b d → (a ≡ b) × (c ≡ d)
 unmix_one_answer s M old h k =
-    one_answer _ _ _ old
+    one_answer (unmix_order s M (length old)) (Unmixed M.modulus s) (LeavesOutput s M.modulus old) old
     (λ e c d i j. one_unmixed M.modulus s i j)
     (λ e c d r p i t. smallest_none (entries s) (unmix_granted s M (length old) e).0.legal.some s.pattern refl t.smallest i.invertible)
     (λ e c d r p r' p' t u. (let q = one_smallest t.smallest u.smallest in cc (t.one, u.one, q), t.untouched ∙ sym u.untouched))
@@ -90,7 +90,7 @@ module _ (s₁ s₂ : Sent) (M : Factored) (g : BothGranted s₁ s₂ M) where
 
 pub same_one_answer : (s₁ s₂ : Sent) (M : Factored) {a b : Answer} {x y : Bool} → SameFeeding s₁ s₂ M a x → SameFeeding s₁ s₂ M b y → (a ≡ b) × (x ≡ y)
 same_one_answer s₁ s₂ M h k =
-    one_answer _ _ _ false
+    one_answer (same_order s₁ s₂ M) (Compared M.modulus s₁ s₂) (NamesRing M.modulus s₁ s₂) false
     (λ e x y a b. one_compared M.modulus s₁ s₂ x y a b)
     (λ e x y r p a s. named_none s₁ s₂ M (same_granted s₁ s₂ M e) s.lowest (a.unmixed₁.invertible, a.unmixed₂.invertible))
     (λ e x y r p r' p' s t. (one_named s₁ s₂ M (same_granted s₁ s₂ M e) s.lowest t.lowest, s.untold ∙ sym t.untold))
