@@ -27,7 +27,7 @@ use Rattle.pattern.specs.Factored.{Factored}
 use Rattle.pattern.specs.Granted.{BothGranted}
 use Rattle.pattern.specs.Same.{Same}
 use Rattle.pattern.specs.Counts.{Unmixed}
-use Rattle.pattern.specs.Promises.{same_order, SameFeeding}
+use Rattle.pattern.specs.Promises.{same_order, Compared, NamesRing, SameFeeding}
 use Rattle.invert.specs.Inversions.{inversion_answer}
 use Rattle.invert.specs.declared.Inversion.{Inversion}
 use Rattle.invert.specs.declared.Inversion.TheVariants.{Inverted, Ghost}
@@ -98,7 +98,7 @@ meets checks done singular stays e (Singular r p) x h = (e, h.1)
 meets checks done singular stays e (Refused r) x h = absurd (passed_refused refl h.0)
 
 pub judged_feeding : {s₁ s₂ : Sent} {M : Factored} {v : Verdict} → first (same_order s₁ s₂ M) ≡ Passed → Judged M.modulus s₁ s₂ v → SameFeeding s₁ s₂ M v.answer v.same
-judged_feeding {v = v} e j = record { meets = meets _ _ _ false e v.answer v.same j.meets }
+judged_feeding {s₁} {s₂} {M} {v} e j = record { meets = meets (same_order s₁ s₂ M) (Compared M.modulus s₁ s₂) (NamesRing M.modulus s₁ s₂) false e v.answer v.same j.meets }
 
 pub refused_feeding : {s₁ s₂ : Sent} {M : Factored} {r : Refusal} {v : Verdict} → first (same_order s₁ s₂ M) ≡ check.Refused r → v ≡ untold (Refused r) → SameFeeding s₁ s₂ M v.answer v.same
 refused_feeding {s₁} {s₂} {M} e q = subst (λ (v : Verdict). SameFeeding s₁ s₂ M v.answer v.same) (sym q) (record { meets = (e, refl) })
