@@ -8,9 +8,7 @@ use Rattle.sheet.specs.declared.Sheet.{Sheet}
 use Rattle.capi.specs.Flag.{flag}
 use Rattle.capi.specs.SheetReply.{answered, sheet_reply}
 use Rattle.capi.specs.declared.SheetReply.{SheetReply}
-use borrow.Author.Rules.{rules}
-use Rattle.capi.proofs.sheet_reply.Statement.{statement}
-use Rattle.capi.proofs.sheet_reply.Tie as tie
+use Rattle.capi.proofs.sheet_reply.Goals as goal
 
 -- The fields, with the reply and the flag as they were worked out.
 abbrev fields : Sheet → Reply → ℕ → SheetReply
@@ -30,11 +28,6 @@ fields sheet r present = record {
 by_parts : (sheet : Sheet) {answer : Answer} {r : Reply} {present : ℕ} → answer ≡ answered sheet.verdict → r ≡ reply answer → present ≡ flag sheet.readings.present → fields sheet r present ≡ sheet_reply sheet
 by_parts sheet e d p = rw (d, e, p)
 
-returns : tie.Need-returns
+pub returns : goal.returns
 returns c =
-    let replied = c.before.before.before.before in
-    let answer = replied.before in
-    by_parts answer.before.args.sheet answer.answer-of.ensures replied.reply-of.ensures c.flag.ensures
-
-pub sheet-reply-spec : {M : Type 1} → statement M
-sheet-reply-spec = tie.close (tie.spec (λ c κs. search rules) (λ c κs. search rules) (λ c κs. search rules) returns)
+    by_parts c.args.sheet c.answer_of.ensures c.reply_of-reply.ensures c.flag.ensures
