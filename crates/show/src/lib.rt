@@ -1,29 +1,28 @@
 // Text, numbers and rings on standard output, for the small programs.
 #![tactic(auto)]
 
-use io::print_decimal;
-use libc::STDOUT_FILENO;
+use std::io;
+use std::io::Print;
 
-pub fn text(bytes: &[u8]) {
-    io::write_all(STDOUT_FILENO, bytes);
+pub fn text<R: Print>(rt: &R, bytes: &[u8]) -> io::Result<()> {
+    rt.write_all(bytes)
 }
 
-fn newline() {
-    text(b"\n");
+fn newline<R: Print>(rt: &R) -> io::Result<()> {
+    text(rt, b"\n")
 }
 
 // A blank and the number.
-pub fn number(n: u64) {
-    text(b" ");
-    print_decimal(STDOUT_FILENO, n);
+pub fn number<R: Print>(rt: &R, n: u64) -> io::Result<()> {
+    print!(rt; " {n}")
 }
 
 // The entries, each after a blank, and a newline.
-pub fn entries(ring: &[u32]) {
+pub fn entries<R: Print>(rt: &R, ring: &[u32]) -> io::Result<()> {
     let mut i = 0;
     while i < ring.len() {
-        number(ring[i] as u64);
+        number(rt, ring[i] as u64)?;
         i += 1;
     }
-    newline();
+    newline(rt)
 }

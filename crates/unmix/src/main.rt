@@ -1,28 +1,48 @@
 // The program unmix: a sheet from standard input, its text to standard output.
 #![tactic(auto)]
 
-ghost use Rattle.std.specs.Prelude.{◌≡◌, length};
+ghost use Rattle.std.specs.Prelude.{◌≡◌, ◌≤◌, length};
 ghost use Rattle.limits.specs.Limits.{deciding_bytes};
 
-use libc::{STDIN_FILENO, STDOUT_FILENO};
 use limits::DECIDING_BYTES;
 use report::{TEXT_ROOM, report};
+use std::io::{Input, Print, Read};
 
-fn print_report(sheet: &[u8]) {
+// What cannot be written is not told.
+fn print_report<R: Print>(rt: &R, sheet: &[u8]) {
     let mut text = [0u8; TEXT_ROOM];
     let length = report(sheet, &mut text);
-    io::write_all(STDOUT_FILENO, &text[..length]);
+    match rt.write_all(&text[..length]) {
+        Ok(()) => {}
+        Err(_) => {}
+    }
+}
+
+// Reads until the bytes are full or the input ends, and tells how many came. A read that fails counts as the end.
+fn read_full<R: Input>(rt: &R, bytes: &mut [u8]) -> usize
+    ensures { result ≤ length bytes.new }
+{
+    let mut reader = rt.reader();
+    let mut at = 0;
+    while at < bytes.len() {
+        match reader.read(&mut bytes[at..]) {
+            Ok(0) => return at,
+            Ok(n) => at += n,
+            Err(_) => return at,
+        }
+    }
+    at
 }
 
 // Reads as many bytes as decide what a sheet means, and so what is printed for it (`first-bytes_print`).
-fn print_read(bytes: &mut [u8])
+fn print_read<R: Input + Print>(rt: &R, bytes: &mut [u8])
     requires { length bytes.old ≡ deciding_bytes }
 {
-    let length = io::read_full(STDIN_FILENO, bytes);
-    print_report(&bytes[..length]);
+    let length = read_full(rt, bytes);
+    print_report(rt, &bytes[..length]);
 }
 
-fn main() {
+fn main(rt: HostRuntime) {
     let mut bytes = [0u8; DECIDING_BYTES];
-    print_read(&mut bytes);
+    print_read(&rt, &mut bytes);
 }
