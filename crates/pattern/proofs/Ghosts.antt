@@ -1,6 +1,6 @@
 -- The ghost: the only one of its kind; a ring of counts, not all zero modulo m, whose readings are all zero; [m/p, 0, .., 0] where f is zero modulo p.
 -- m / p times what is zero modulo p is zero modulo m, and the leading coefficient m / p is not. Assumes nothing.
-use Prim.Native.Nat.{ℕ, zero, suc, ◌+◌, ◌*◌, ◌-◌, ◌/◌, ◌%◌, ◌≤◌, ◌<◌, ◌∣◌}
+use Prim.Native.Nat.{ℕ, zero, suc, ◌+◌, ◌*◌, ◌/◌, ◌%◌, ◌≤◌, ◌<◌, ◌∣◌}
 use mathlib.Core.Path.{◌≡◌, sym, ap, ◌∙◌}
 use mathlib.Core.Logic.{◌≢◌}
 use mathlib.Core.List.{List}

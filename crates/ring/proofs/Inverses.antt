@@ -8,7 +8,7 @@ use Rattle.sums.specs.Table.{at}
 use Rattle.sums.proofs.Tables.{table_inj}
 use Rattle.ring.specs.Ring.{Ring}
 use Rattle.ring.specs.Mix.{mix}
-use Rattle.ring.specs.One.{one, zeros}
+use Rattle.ring.specs.One.{zeros}
 use Rattle.ring.specs.Reduce.{reduce}
 use Rattle.ring.specs.Inverse.{Inverse, Invertible}
 use Rattle.ring.proofs.Product.{mix_left_comm, mix-reduce, mix-one, mix_comm, mix_assoc, mix-zeros, mix_ring, mix_unit}

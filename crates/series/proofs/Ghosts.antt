@@ -1,6 +1,6 @@
 -- What f takes to 0 modulo x^n - 1, over any modulus m above 1. The ghost is the only one of its kind; what f takes to 0 are its multiples, by
 -- division; an inverse takes only 0 to 0 among polynomials of fewer than n coefficients, so no ghost of degree below n stands beside it. Assumes nothing.
-use Prim.Native.Nat.{ℕ, zero, suc, ◌+◌, ◌*◌, ◌-◌, ◌%◌, ◌≤◌, ◌<◌}
+use Prim.Native.Nat.{ℕ, suc, ◌+◌, ◌*◌, ◌-◌, ◌%◌, ◌≤◌, ◌<◌}
 use mathlib.Core.Path.{◌≡◌, sym, ◌∙◌, ap, subst}
 use native.Mathlib.Decide.{dec_lt}
 use native.Mathlib.Omega.{arith}

@@ -1,5 +1,4 @@
 -- The goals of `along::four_entries` that the search leaves.
-use Prim.Native.Nat.{◌-◌}
 use mathlib.Core.Path.{◌≡◌}
 use lib.ListN.{length}
 use Rattle.along.proofs.Blocks.{block_ready, first_block, sums_fit, next-block}
@@ -18,11 +17,10 @@ four_reduced-s-requires c =
     sums_fit c.args.x.now c.args.c.now c.args.m c.loop-i.i c.block_end-e.result c.requires c.block_end-e.ensures _ _ c.loop-i.invariant.1 c.four_sums-t.ensures
 
 pub loop-i-preserved : goal.loop-i-preserved
-loop-i-preserved c =
-    (
-      omega arith,
-      next-block c.args.x.now c.args.c.now c.args.m c.loop-i.i c.block_end-e.result c.requires c.block_end-e.ensures _ _ c.loop-i.invariant.1 c.four_sums-t.ensures _ c.four_reduced-s.ensures,
-    )
+loop-i-preserved c = (
+  omega arith,
+  next-block c.args.x.now c.args.c.now c.args.m c.loop-i.i c.block_end-e.result c.requires c.block_end-e.ensures _ _ c.loop-i.invariant.1 c.four_sums-t.ensures _ c.four_reduced-s.ensures,
+)
 
 pub returns : goal.returns
 returns c =

@@ -1,5 +1,4 @@
 -- The goals of `along::four_sums` that the search leaves.
-use Prim.Native.Nat.{◌-◌}
 use mathlib.Core.Path.{◌≡◌, refl}
 use lib.ListN.{length}
 use Rattle.sums.specs.Sum.{sum}

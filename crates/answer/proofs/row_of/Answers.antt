@@ -3,7 +3,6 @@ use mathlib.Core.Path.{◌≡◌, sym, ap, ◌∙◌}
 use Rattle.answer.specs.Numbers.{refusal_row}
 use Rattle.answer.specs.declared.Case.{Case}
 use Rattle.answer.specs.declared.Row.{Row}
-use Rattle.answer.proofs.row_of.Goals as goal
 
 -- What an arm answers, where the case is the arm's.
 arm : {case here : Case} {answered : Row} → answered ≡ refusal_row here → case ≡ here → answered ≡ refusal_row case

@@ -1,11 +1,8 @@
 -- The goals of `calls::fold_parts` that the search leaves.
 use mathlib.Core.Path.{◌≡◌, refl}
-use mathlib.Core.List.{List}
-use Prim.Native.Nat.{ℕ, ◌+◌, ◌-◌, ◌*◌, ◌/◌, ◌%◌}
+use Prim.Native.Nat.{◌/◌}
 use native.Mathlib.Nat.{mod-lt, div-mul_cancel}
 use lib.ListN.{length, length-set}
-use Rattle.sums.specs.Sum.{sum}
-use Rattle.sums.specs.Table.{at}
 use Rattle.sums.proofs.Fill.{fill_none, fill_step, fill_all}
 use Rattle.ring.proofs.Fold as laws
 use native.Mathlib.Omega.{arith}

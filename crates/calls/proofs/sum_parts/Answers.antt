@@ -1,6 +1,6 @@
 -- The goals of `calls::sum_parts` that the search leaves.
 use mathlib.Core.Path.{◌≡◌, ap, ◌∙◌}
-use Prim.Native.Nat.{ℕ, ◌+◌, ◌-◌, ◌*◌, ◌≤◌, ◌<◌}
+use Prim.Native.Nat.{ℕ, ◌+◌, ◌*◌, ◌≤◌, ◌<◌}
 use native.Mathlib.Nat.{mul-le-mul_right}
 use lib.ListN.{length}
 use Rattle.sums.specs.Sum.{sum}

@@ -1,5 +1,4 @@
 -- The goals of `checks::first_high` that the search leaves.
-use Prim.Native.Nat.{◌-◌}
 use native.Mathlib.Omega.{arith}
 use Rattle.checks.proofs.FirstHigh.{high_here, high_later, high_none}
 use Rattle.checks.proofs.first_high.Goals as goal

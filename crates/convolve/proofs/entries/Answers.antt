@@ -1,5 +1,5 @@
 -- The goals of `convolve::entries` that the search leaves.
-use Prim.Native.Nat.{◌+◌, ◌-◌, ◌%◌}
+use Prim.Native.Nat.{◌+◌, ◌%◌}
 use mathlib.Core.Path.{refl}
 use Rattle.along.specs.Along.{along}
 use Rattle.convolve.proofs.Output.{rows_ready, entries_are, entry_words, filled_none, filled_four, filled_all}

@@ -1,5 +1,4 @@
 -- The goals of `convolve::lay_once` that the search leaves.
-use Prim.Native.Nat.{◌-◌}
 use mathlib.Core.Path.{◌≡◌, refl}
 use lib.ListN.{length, length-set}
 use Rattle.convolve.proofs.Layouts.{around_none, around-step, first_turn}

@@ -1,5 +1,4 @@
 -- `division::divide` meets its contract. The loop's invariant is `Going`, and its measure l, which each turn lowers. Assumes nothing.
-use Prim.Native.Nat.{◌-◌}
 use Rattle.division.proofs.Dividing.{Going}
 use Rattle.division.proofs.divide.Given as goal
 

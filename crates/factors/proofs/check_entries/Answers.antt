@@ -1,5 +1,4 @@
 -- The goals of `factors::check_entries` that the search leaves.
-use Prim.Native.Nat.{◌-◌}
 use mathlib.Core.Path.{sym, ◌∙◌}
 use native.Mathlib.Omega.{arith}
 use Rattle.factors.proofs.Entries.{one_entry, no_entry}

@@ -1,6 +1,5 @@
 -- The goals of `invert::solve` that the search leaves.
 use mathlib.Core.Path.{refl}
-use Prim.Native.Nat.{◌-◌}
 use Rattle.invert.proofs.Steps.{same_lists, walk_start, walk-next, walk-joined, walk_dark, walk_end}
 use native.Mathlib.Omega.{arith}
 use Rattle.invert.proofs.solve.Goals as goal

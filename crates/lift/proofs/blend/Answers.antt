@@ -1,7 +1,6 @@
 -- The goals of `lift::blend` that the search leaves.
 use mathlib.Core.Path.{◌≡◌, refl, sym, ap, ◌∙◌, subst}
-use mathlib.Core.List.{List}
-use Prim.Native.Nat.{ℕ, ◌+◌, ◌-◌, ◌*◌, ◌%◌}
+use Prim.Native.Nat.{ℕ, ◌+◌, ◌*◌, ◌%◌}
 use lib.ListN.{length, length-set}
 use Rattle.sums.specs.Table.{at, table}
 use Rattle.sums.proofs.Fill.{fill_none, fill_all, fill_read, fill_store}

@@ -1,6 +1,6 @@
 -- The goals of `lift::lift_in` that the search leaves.
 use mathlib.Core.Path.{◌≡◌, sym, ap, ◌∙◌, subst}
-use Prim.Native.Nat.{ℕ, ◌-◌, ◌^◌}
+use Prim.Native.Nat.{ℕ, ◌^◌}
 use lib.ListN.{length}
 use lib.Seq.{length-take-le}
 use Rattle.ring.specs.Inverse.{Inverse}

@@ -1,6 +1,5 @@
 -- The goals of `lift::twice_less` that the search leaves.
 use mathlib.Core.Path.{◌≡◌, refl, ap, ◌∙◌}
-use mathlib.Core.List.{List}
 use Prim.Native.Nat.{ℕ, ◌+◌, ◌-◌, ◌*◌, ◌%◌, ◌≤◌, ◌<◌}
 use lib.ListN.{length, length-set}
 use Rattle.sums.specs.Table.{at, table}

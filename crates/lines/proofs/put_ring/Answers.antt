@@ -1,5 +1,4 @@
 -- The goals of `lines::put_ring` that the search leaves.
-use Prim.Native.Nat.{◌-◌}
 use native.Mathlib.Omega.{arith}
 use Rattle.lines.proofs.Putting.{puts_nothing, puts_length}
 use Rattle.lines.proofs.Rows.{room_entry, puts_entry, puts_ring}

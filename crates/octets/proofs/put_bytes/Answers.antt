@@ -1,5 +1,4 @@
 -- The goals of `octets::put_bytes` that the search leaves.
-use Prim.Native.Nat.{◌-◌}
 use mathlib.Core.Path.{refl}
 use lib.ListN.{length-set}
 use lib.Seq.{paste-zero}

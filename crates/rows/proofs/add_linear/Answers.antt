@@ -1,5 +1,5 @@
 -- The goals of `rows::add_linear` that the search leaves.
-use Prim.Native.Nat.{ℕ, ◌+◌, ◌*◌, ◌-◌, ◌<◌}
+use Prim.Native.Nat.{ℕ, ◌+◌, ◌*◌, ◌<◌}
 use mathlib.Core.Path.{◌≡◌, refl, sym, ap, ◌∙◌}
 use mathlib.Core.List.{◌∷◌, ◌++◌}
 use lib.ListN.{length, drop, length-set}

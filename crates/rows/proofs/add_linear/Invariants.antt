@@ -1,6 +1,6 @@
 -- `rows::add_linear` meets its contract. The loop's invariant: the first i entries are the answer's, the rest is as it came, and last is entry i - 1 of src.
 -- The measure is what is left of src. Assumes nothing.
-use Prim.Native.Nat.{◌+◌, ◌-◌, ◌≤◌}
+use Prim.Native.Nat.{◌-◌, ◌≤◌}
 use mathlib.Core.Path.{◌≡◌}
 use mathlib.Core.List.{◌∷◌, ◌++◌}
 use lib.ListN.{length, drop}

@@ -1,5 +1,5 @@
 -- The goals of `rows::scale` that the search leaves.
-use Prim.Native.Nat.{ℕ, ◌*◌, ◌-◌, ◌%◌}
+use Prim.Native.Nat.{ℕ, ◌*◌, ◌%◌}
 use mathlib.Core.Path.{◌≡◌, refl, ap, ◌∙◌}
 use native.Mathlib.Nat.{zero-add}
 use lib.ListN.{length, length-set}

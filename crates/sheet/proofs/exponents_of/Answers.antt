@@ -1,5 +1,4 @@
 -- The goals of `sheet::exponents_of` that the search leaves.
-use Prim.Native.Nat.{◌-◌}
 use mathlib.Core.Path.{◌≡◌, refl}
 use lib.ListN.{length, length-set}
 use Rattle.sums.proofs.Fill.{fill_none, fill_step, fill_all}

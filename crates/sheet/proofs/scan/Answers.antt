@@ -1,5 +1,5 @@
 -- The goals of `sheet::scan` that the search leaves: a step of the code is a step of the walk, from where the struct stands.
-use Rattle.std.proofs.Common.{◌≡◌, ℕ, List, Bor, ap, sym, ◌∙◌}
+use Rattle.std.proofs.Common.{ℕ, List, Bor, ap, sym, ◌∙◌}
 use Rattle.sheet.specs.Steps.{step}
 use Rattle.sheet.specs.declared.Step.{Step}
 use Rattle.sheet.proofs.Turns.{Stands, begins, turn_walks, turn_less}
@@ -26,5 +26,5 @@ loop-last-preserved c =
       ap (λ (b : Bor (List ℕ)). b.now) c.moved-walk.ensures.0 ∙ inv.0,
       c.moved-walk.ensures.1,
       turn_walks c.args.bytes.now c.loop-last-test.true stands
-      (c.stepped-last.ensures stands.come stands.found ∙ ap (λ (b : List ℕ). step b stands.come c.loop-last.walk.at) inv.0 ∙ ap (step c.args.bytes.now stands.come) inv.1),
+          (c.stepped-last.ensures stands.come stands.found ∙ ap (λ (b : List ℕ). step b stands.come c.loop-last.walk.at) inv.0 ∙ ap (step c.args.bytes.now stands.come) inv.1),
     )

@@ -1,6 +1,5 @@
 -- The goals of `slices::clear` that the search leaves.
 use mathlib.Core.Path.{◌≡◌, refl}
-use Prim.Native.Nat.{◌-◌}
 use lib.ListN.{length, length-set}
 use Rattle.sums.proofs.Fill.{fill_none, fill_step, fill_all}
 use Rattle.ring.specs.One.{zeros}

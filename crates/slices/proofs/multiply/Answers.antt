@@ -1,5 +1,5 @@
 -- The goals of `slices::multiply` that the search leaves.
-use Prim.Native.Nat.{ℕ, ◌*◌, ◌-◌}
+use Prim.Native.Nat.{ℕ, ◌*◌}
 use mathlib.Core.Path.{◌≡◌, refl, ap, ◌∙◌}
 use lib.ListN.{length, length-set}
 use Rattle.sums.specs.Table.{at, table}

@@ -1,6 +1,6 @@
 -- The goals of `slices::remainders` that the search leaves.
 use mathlib.Core.Path.{◌≡◌, refl}
-use Prim.Native.Nat.{◌-◌, ◌%◌}
+use Prim.Native.Nat.{◌%◌}
 use lib.ListN.{length, length-set}
 use Rattle.sums.specs.Table.{at}
 use Rattle.sums.proofs.Fill.{fill_none, fill_step, fill_all}

@@ -2,7 +2,7 @@
 use mathlib.Core.Path.{◌≡◌, sym, ap, subst}
 use mathlib.Core.Bool.{true, false}
 use mathlib.Core.List.{List}
-use Prim.Native.Nat.{ℕ, ◌-◌}
+use Prim.Native.Nat.{ℕ}
 use native.Mathlib.Decide.{ℕ_discrete}
 use lib.Seq.{ext_get_or}
 use Rattle.sums.specs.Table.{at}
@@ -23,8 +23,7 @@ returns-then-a-k c = record {
 
 pub loop-k-preserved : goal.loop-k-preserved
 loop-k-preserved c =
-    let loop = c.loop-k in
-    (
+    let loop = c.loop-k in (
       omega arith,
       λ i h. elim (ℕ_discrete i loop.k) [
         | yes e ↦ subst (λ (x : ℕ). at c.args.a.now x ≡ at c.args.b.now x) (sym e) c.if-a-k.false

@@ -1,5 +1,4 @@
 -- The goals of `modular::factor::product` that the search leaves.
-use Prim.Native.Nat.{◌-◌}
 use mathlib.Core.Path.{◌≡◌}
 use lib.ListN.{length}
 use Rattle.modular.proofs.Factors.{rising_same}
