@@ -10,7 +10,7 @@ slice_bounds-over-end c = sym (long_front (room c.requires) c.requires.held_s)
 
 pub over-requires : goal.over-requires
 over-requires c =
-    dividable c.requires c.requires.held_s (last_some c.requires c.if-l-eq1.true) refl
+    dividable c.requires c.requires.held_s (last_some c.requires (omega arith)) refl
 
 pub shape_of-out-then-l-eq1 : goal.shape_of-out-then-l-eq1
 shape_of-out-then-l-eq1 c =
@@ -48,4 +48,4 @@ shape_of-out c =
 
 pub returns : goal.returns
 returns c =
-    finished_ghost c.requires c.if-l-eq1.false c.over-2.ensures
+    finished_ghost c.requires (omega arith) c.over-2.ensures

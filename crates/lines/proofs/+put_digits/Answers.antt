@@ -8,7 +8,7 @@ pub returns-then-x-lt10 : goal.returns-then-x-lt10
 returns-then-x-lt10 t c = puts_digit c.if-x-lt10.true c.put_digit.ensures
 
 pub put_digit-requires-2 : goal.put_digit-requires-2
-put_digit-requires-2 t c = record { low = mod-lt c.args.x (omega arith); inside = last_inside c.if-x-lt10.false c.put_digits-end.ensures c.requires }
+put_digit-requires-2 t c = record { low = mod-lt c.args.x (omega arith); inside = last_inside (omega arith) c.put_digits-end.ensures c.requires }
 
 pub returns : goal.returns
-returns t c = puts_last c.if-x-lt10.false c.put_digits-end.ensures c.put_digit-2.ensures
+returns t c = puts_last (omega arith) c.put_digits-end.ensures c.put_digit-2.ensures
