@@ -3,7 +3,7 @@
  * polynomials modulo x^n - 1 and m. n is 1 to 1,024 and m is 2 to 1,000,000.
  *
  * Link with the library dowelbrook of the folder that tools/dist makes (lib/pkgconfig
- * there says how), or with target/staticlib/libcapi.a, which `rt staticlib capi` makes.
+ * there says how), or with target/staticlib/libcapi.a, which tests/archive capi makes.
  *
  * Every call ends for every content of its buffers and touches nothing else.
  * Three things it cannot see for itself, and the caller owes them:

@@ -1,6 +1,6 @@
 /*
  * The inner functions, for tests/ and bench/ alone. Link with
- * target/staticlib/libprobe.a, which `rt staticlib probe` makes.
+ * target/staticlib/libprobe.a, which tests/archive probe makes.
  *
  * As in dowelbrook.h no pointer is NULL, each is good for its length, and an
  * output overlaps no input. What an answer does not tell is 0.

@@ -130,7 +130,6 @@ fn untold(answer: Answer) -> Verdict
 }
 
 // Whether two rings of counts are the same feeding: they agree, and at least one entry isn't zero.
-#[tactic(auto, using(crate::proofs::Comparing::fed_exactly))]
 fn same_counts(a: &[u32], b: &[u32]) -> bool
     requires { length b.now ≡ length a.now }
     ensures { (result ≡ true) ↔ Same (length a.now) a.now b.now }
