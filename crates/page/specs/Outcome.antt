@@ -1,7 +1,7 @@
 -- What the program unmix comes to (document 01, The pattern sheet): "then `inverse` and the n entries, or `singular p ghost` and the n entries; then,
 -- with readings and an inverse, `counts` and the n entries." A refusal comes instead.
 use Rattle.std.specs.Prelude.{ℕ, ◌≡◌, List, [], ◌∷◌, length}
-use Rattle.std.proofs.Math.Option.{Option, none, some}
+use mathlib.Core.Option.{Option, none, some}
 use Rattle.ring.specs.Inverse.{Inverse}
 use Rattle.answer.specs.First.{first}
 use Rattle.answer.specs.declared.Check.{Check}

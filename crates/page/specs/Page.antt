@@ -1,6 +1,6 @@
 -- The lines that the program prints (document 01, The pattern sheet).
 use Rattle.std.specs.Prelude.{ℕ, List, [], ◌∷◌, ◌++◌}
-use Rattle.std.proofs.Math.Option.{Option, none, some}
+use mathlib.Core.Option.{Option, none, some}
 use Rattle.answer.specs.Numbers.{refusal_row}
 use Rattle.answer.specs.declared.Refusal.{Refusal}
 use Rattle.answer.specs.declared.Told.{Told}

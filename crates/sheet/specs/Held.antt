@@ -1,6 +1,6 @@
 -- What an accepted sheet holds, in numbers (document 01, The pattern sheet).
 use Rattle.std.specs.Prelude.{ℕ, Bool, true, false, List}
-use Rattle.std.proofs.Math.Option.{Option, none, some}
+use mathlib.Core.Option.{Option, none, some}
 use Rattle.sheet.specs.Sheets.{bytes_of}
 use Rattle.sheet.specs.Entries.{entries_of, primes_of, exponents_of}
 use Rattle.sheet.specs.declared.Sheet.{Sheet}

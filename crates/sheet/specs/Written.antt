@@ -1,6 +1,6 @@
 -- A version 1 sheet that is written from its values, and what reads back (document 01, The pattern sheet).
 use Rattle.std.specs.Prelude.{ℕ, ◌%◌, ◌≤◌, ◌≡◌, true, List, [], ◌∷◌, length}
-use Rattle.std.proofs.Math.Option.{Option, none, some}
+use mathlib.Core.Option.{Option, none, some}
 use Rattle.limits.specs.Limits.{modulus_bytes, factor_bytes, entry_bytes, most_factor_bytes, most_entry_bytes}
 use Rattle.answer.specs.declared.Check.TheVariants.{Passed}
 use Rattle.octets.specs.Numbers.{big_endian}

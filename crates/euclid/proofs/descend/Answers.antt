@@ -1,9 +1,6 @@
 -- The goals of `euclid::descend` that the search leaves.
 use mathlib.Core.Path.{refl}
 use native.Mathlib.Omega.{arith}
-use lib.ListN.{length}
-use Rattle.sums.specs.Table.{at}
-use Rattle.euclid.specs.Descent.{Standing}
 use Rattle.euclid.proofs.Descent.{begun, left, stuck, steppable, stepped, last, answered}
 use Rattle.euclid.proofs.descend.Goals as goal
 
@@ -31,19 +28,19 @@ returns-in-Stuck c = record { long = c.loop-l1.invariant.1; reaches = stuck c.st
 -- ---- it leaves nothing
 pub finish-requires : goal.finish-requires
 finish-requires c =
-    let halfway : Standing (length c.args.out.now) c.args.m (at c.args.r1.now) c.loop-l1.l1 c.in-Left.l c.loop-l1.r1 c.step.new.r0 c.loop-l1.s1 c.step.new.s0 = stepped c.requires.sizes c.loop-l1.invariant.0 c.loop-l1-test.true (left c.step.ensures c.in-Left.is) in
-    last c.requires.sizes (halfway) c.requires.known c.loop-l1.invariant.1 c.if-l0-eq0.true
+    let halfway = stepped c.requires.sizes c.loop-l1.invariant.0 c.loop-l1-test.true (left c.step.ensures c.in-Left.is) in
+    last c.requires.sizes halfway c.requires.known c.loop-l1.invariant.1 c.if-l0-eq0.true
 
 pub returns-then-l0-eq0 : goal.returns-then-l0-eq0
 returns-then-l0-eq0 c =
-    let halfway : Standing (length c.args.out.now) c.args.m (at c.args.r1.now) c.loop-l1.l1 c.in-Left.l c.loop-l1.r1 c.step.new.r0 c.loop-l1.s1 c.step.new.s0 = stepped c.requires.sizes c.loop-l1.invariant.0 c.loop-l1-test.true (left c.step.ensures c.in-Left.is) in
-    answered c.requires.sizes (halfway) c.loop-l1.invariant.1 c.if-l0-eq0.true c.finish.ensures
+    let halfway = stepped c.requires.sizes c.loop-l1.invariant.0 c.loop-l1-test.true (left c.step.ensures c.in-Left.is) in
+    answered c.requires.sizes halfway c.loop-l1.invariant.1 c.if-l0-eq0.true c.finish.ensures
 
 -- ---- the second division
 pub step-requires-in-loop-l1 : goal.step-requires-in-loop-l1
 step-requires-in-loop-l1 c =
-    let halfway : Standing (length c.args.out.now) c.args.m (at c.args.r1.now) c.loop-l1.l1 c.in-Left.l c.loop-l1.r1 c.step.new.r0 c.loop-l1.s1 c.step.new.s0 = stepped c.requires.sizes c.loop-l1.invariant.0 c.loop-l1-test.true (left c.step.ensures c.in-Left.is) in
-    steppable c.requires.sizes (halfway) c.requires.known (omega (arith, c.if-l0-eq0.false))
+    let halfway = stepped c.requires.sizes c.loop-l1.invariant.0 c.loop-l1-test.true (left c.step.ensures c.in-Left.is) in
+    steppable c.requires.sizes halfway c.requires.known (omega (arith, c.if-l0-eq0.false))
 
 pub loop-l1-smaller : goal.loop-l1-smaller
 loop-l1-smaller c =
@@ -51,8 +48,8 @@ loop-l1-smaller c =
 
 pub loop-l1-preserved : goal.loop-l1-preserved
 loop-l1-preserved c =
-    let halfway : Standing (length c.args.out.now) c.args.m (at c.args.r1.now) c.loop-l1.l1 c.in-Left.l c.loop-l1.r1 c.step.new.r0 c.loop-l1.s1 c.step.new.s0 = stepped c.requires.sizes c.loop-l1.invariant.0 c.loop-l1-test.true (left c.step.ensures c.in-Left.is) in
-    (stepped c.requires.sizes (halfway) (omega (arith, c.if-l0-eq0.false)) (left c.step-in-loop-l1.ensures c.in-Left-step.is), c.loop-l1.invariant.1)
+    let halfway = stepped c.requires.sizes c.loop-l1.invariant.0 c.loop-l1-test.true (left c.step.ensures c.in-Left.is) in
+    (stepped c.requires.sizes halfway (omega (arith, c.if-l0-eq0.false)) (left c.step-in-loop-l1.ensures c.in-Left-step.is), c.loop-l1.invariant.1)
 
 pub returns-in-Stuck-step : goal.returns-in-Stuck-step
 returns-in-Stuck-step c =

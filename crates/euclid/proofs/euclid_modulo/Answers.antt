@@ -1,20 +1,19 @@
 -- `euclid::euclid_modulo` meets its contract: the rows begin with x^n - 1 and f modulo m, and the descent answers for f. Assumes nothing.
 use native.Mathlib.Omega.{arith}
-use mathlib.Core.Path.{◌≡◌, sym}
-use lib.ListN.{length, take}
+use mathlib.Core.Path.{sym}
 use lib.Seq.{length-take-le}
 use Rattle.euclid.proofs.Descent.{beginning, called}
 use Rattle.euclid.proofs.euclid_modulo.Goals as goal
 
 pub slice_bounds-remainders-end : goal.slice_bounds-remainders-end
 slice_bounds-remainders-end c =
-    let front : length (take (length c.args.f.now) c.constant-r1.result) ≡ length c.args.f.now = length-take-le _ _ (omega (arith, c.constant-r1.ensures.long, c.requires.sizes.most)) in
-    sym (front)
+    sym (length-take-le _ _ (omega (arith, c.constant-r1.ensures.long, c.requires.sizes.most)))
 
 pub remainders-requires : goal.remainders-requires
-remainders-requires c =
-    let front : length (take (length c.args.f.now) c.constant-r1.result) ≡ length c.args.f.now = length-take-le _ _ (omega (arith, c.constant-r1.ensures.long, c.requires.sizes.most)) in
-    record { modulus = omega (arith, c.requires.sizes.two); room = front }
+remainders-requires c = record {
+  modulus = omega (arith, c.requires.sizes.two);
+  room = length-take-le _ _ (omega (arith, c.constant-r1.ensures.long, c.requires.sizes.most));
+}
 
 pub descend-requires : goal.descend-requires
 descend-requires c =

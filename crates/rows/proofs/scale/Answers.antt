@@ -3,9 +3,8 @@ use Prim.Native.Nat.{ℕ, ◌*◌, ◌%◌}
 use mathlib.Core.Path.{◌≡◌, refl, ap, ◌∙◌}
 use native.Mathlib.Nat.{zero-add}
 use lib.ListN.{length, length-set}
-use Rattle.sums.specs.Table.{table}
 use Rattle.sums.proofs.Fill.{fill_none, fill_all, fill_read, fill_store}
-use Rattle.rows.specs.Row.{times, terms}
+use Rattle.rows.specs.Row.{terms}
 use native.Mathlib.Omega.{arith}
 use Rattle.rows.proofs.scale.Goals as goal
 
@@ -14,24 +13,21 @@ loop-i-init c = (omega arith, fill_none _ _, refl)
 
 pub plus_multiple-requires : goal.plus_multiple-requires
 plus_multiple-requires c =
-    let entry : ℕ → ℕ = λ k. times c.args.f c.args.row.now k % c.args.p in
     let v = c.loop-i in
-    record { modulus = c.requires.modulus; factor = c.requires.factor; onto = omega (arith, c.requires.factor.low); from = omega (arith, fill_read (entry) c.args.row.now v.i (omega arith) v.invariant.1, c.requires.low v.i) }
+    record { modulus = c.requires.modulus; factor = c.requires.factor; onto = omega (arith, c.requires.factor.low); from = omega (arith, fill_read _ _ v.i (omega arith) v.invariant.1, c.requires.low v.i) }
 
 pub loop-i-preserved : goal.loop-i-preserved
 loop-i-preserved c =
-    let entry : ℕ → ℕ = λ k. times c.args.f c.args.row.now k % c.args.p in
     let v = c.loop-i in
-    let x = fill_read (entry) c.args.row.now v.i (omega arith) v.invariant.1 in (
+    let x = fill_read _ c.args.row.now v.i (omega arith) v.invariant.1 in (
       omega arith,
-      fill_store (entry) c.args.row.now v.i (omega arith) v.invariant.1 (c.plus_multiple.ensures ∙ ap (λ (z : ℕ). z % c.args.p) (zero-add _ ∙ ap (λ (z : ℕ). c.args.f * z) x)),
+      fill_store _ c.args.row.now v.i (omega arith) v.invariant.1 (c.plus_multiple.ensures ∙ ap (λ (z : ℕ). z % c.args.p) (zero-add _ ∙ ap (λ (z : ℕ). c.args.f * z) x)),
       simp length-set (omega arith),
     )
 
 pub returns : goal.returns
 unfolding terms
 returns c =
-    let entry : ℕ → ℕ = λ k. times c.args.f c.args.row.now k % c.args.p in
     let v = c.loop-i in
     let e : v.i ≡ length c.args.row.now = omega arith in
-    v.invariant.1 ∙ fill_all (entry) c.args.row.now v.i e ∙ ap (λ (n : ℕ). table n (entry)) e
+    rw (← e) (v.invariant.1 ∙ fill_all _ c.args.row.now v.i e)

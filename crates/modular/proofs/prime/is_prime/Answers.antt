@@ -8,7 +8,12 @@ use native.Mathlib.Nat.{div-add-mod, mul-div-le, mul-mod_right}
 use native.Mathlib.Decide.{ℕ_discrete}
 use borrow.Author.Tests.{eqb-true, eq-eqb}
 use native.Mathlib.Omega.{arith}
+use Rattle.modular.proofs.prime.is_prime.Invariants.{Trying}
 use Rattle.modular.proofs.prime.is_prime.Goals as goal
+
+-- A divisor that is tried is at most a third of p.
+third : {p d q : ℕ} → Trying p d q → d ≤ q → 3 * d ≤ p
+third {p} {d} t h = tried_low p d t.from (omega (arith, t.quotient))
 
 pub returns-then-p-lt2 : goal.returns-then-p-lt2
 returns-then-p-lt2 c = tells_none (λ pr. omega (arith, pr.two))
@@ -26,34 +31,23 @@ loop-d-init c = record { two = omega arith; odd = c.if-p-eq0.false; step = refl;
 
 pub overflow_mul-d : goal.overflow_mul-d
 overflow_mul-d c =
-    let number : ℕ = c.args.p in
-    let p = number in
     let v = c.loop-d in
-    omega (arith, ap (λ (x : ℕ). v.d * x) v.invariant.quotient, mul-div-le p v.d)
+    omega (arith, ap (λ (x : ℕ). v.d * x) v.invariant.quotient, mul-div-le c.args.p v.d)
 
 pub returns-then-d-q : goal.returns-then-d-q
 returns-then-d-q c =
-    let number : ℕ = c.args.p in
-    let low : 3 * c.loop-d.d ≤ number = tried_low _ _ c.loop-d.invariant.from (omega (arith, c.loop-d.invariant.quotient)) in
     let v = c.loop-d in
-    tells_none (composite _ v.d (omega arith) (omega (arith, low)) (ap (λ (x : ℕ). x % v.d) (sym c.if-d-q.true) ∙ mul-mod_right v.d v.q))
+    tells_none (composite _ v.d (omega arith) (omega (arith, third v.invariant (omega arith))) (ap (λ (x : ℕ). x % v.d) (sym c.if-d-q.true) ∙ mul-mod_right v.d v.q))
 
 pub overflow_add-d : goal.overflow_add-d
-overflow_add-d c =
-    let number : ℕ = c.args.p in
-    let low : 3 * c.loop-d.d ≤ number = tried_low _ _ c.loop-d.invariant.from (omega (arith, c.loop-d.invariant.quotient)) in
-    omega (arith, low)
+overflow_add-d c = omega (arith, third c.loop-d.invariant (omega arith))
 
 pub loop-d-smaller : goal.loop-d-smaller
-loop-d-smaller c =
-    let number : ℕ = c.args.p in
-    let low : 3 * c.loop-d.d ≤ number = tried_low _ _ c.loop-d.invariant.from (omega (arith, c.loop-d.invariant.quotient)) in
-    omega (arith, low)
+loop-d-smaller c = omega (arith, third c.loop-d.invariant (omega arith))
 
 pub loop-d-preserved : goal.loop-d-preserved
 loop-d-preserved c =
-    let number : ℕ = c.args.p in
-    let p = number in
+    let p = c.args.p in
     let l = c.loop-d in
     let v = l.invariant in
     let not : p % l.d ≢ 0 = λ e. c.if-d-q.false (ap (λ (x : ℕ). l.d * x) v.quotient ∙ omega (arith, div-add-mod p l.d)) in
@@ -61,6 +55,5 @@ loop-d-preserved c =
 
 pub returns : goal.returns
 returns c =
-    let number : ℕ = c.args.p in
     let v = c.loop-d.invariant in
-    tells_prime (free_prime (number) c.loop-d.d v.two (omega (arith, v.quotient)) v.free)
+    tells_prime (free_prime c.args.p c.loop-d.d v.two (omega (arith, v.quotient)) v.free)
