@@ -7,8 +7,8 @@
  * more than the table `calls` states. Then it runs on an ordinary thread that has just the stated stack above its guard
  * page, where too deep a frame ends the process.
  *
- * memset and memcpy, all that the library needs from elsewhere, are bound before: drawing the inputs calls it. In a
- * program that binds them at their first use, the dynamic linker once stands on the same stack.
+ * memset, memcpy and memmove are all that the library needs from elsewhere. In a program that binds them at their first
+ * use, the dynamic linker once stands on the same stack.
  */
 #include <limits.h>
 #include <pthread.h>
@@ -273,7 +273,7 @@ struct call {
 };
 
 /* The stack that is enough for a call: a whole number of 4 KiB, with SPARE bytes to spare above what is measured, and
-   4 KiB where memset or memcpy is called, so that the dynamic linker has room too. docs/ARCHITECTURE.md has the same
+   4 KiB where one of the three is called, so that the dynamic linker has room too. docs/ARCHITECTURE.md has the same
    numbers, and tests/src/tables.rs compares them. */
 #define SPARE 2048
 static const struct call calls[] = {

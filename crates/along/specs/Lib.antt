@@ -1,4 +1,2 @@
-pub mod Block
 pub mod Along
-pub mod Four
 pub mod Asks

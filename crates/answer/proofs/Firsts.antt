@@ -10,16 +10,16 @@ use Rattle.answer.specs.Refuse.{refuse_if}
 use Rattle.answer.specs.First.{or, first}
 use Rattle.answer.specs.declared.Case.{Case}
 use Rattle.answer.specs.declared.Refusal.{Refusal}
-use Rattle.answer.specs.declared.Check.{Check}
-use Rattle.answer.specs.declared.Check.TheVariants.{Passed, Refused}
+use Rattle.std.specs.Prelude.{Ok, Err}
+use Rattle.answer.specs.Check.{Check}
 
 pub or_assoc : (c d e : Check) → or (or c d) e ≡ or c (or d e)
-or_assoc Passed d e = refl
-or_assoc (Refused r) d e = refl
+or_assoc (Ok _) d e = refl
+or_assoc (Err r) d e = refl
 
-pub or_passed : (c : Check) → or c Passed ≡ c
-or_passed Passed = refl
-or_passed (Refused r) = refl
+pub or_passed : (c : Check) → or c (Ok tt) ≡ c
+or_passed (Ok _) = refl
+or_passed (Err r) = refl
 
 pub first-append : (k l : List Check) → first (k ++ l) ≡ or (first k) (first l)
 first-append [] l = refl
@@ -38,33 +38,30 @@ or_either true t k ring place e d = rw e
 or_either false t k ring place e d = rw (e, d)
 
 -- A match on what the first checks found.
-pub or-go_on : {found before after r : Check} → found ≡ before → found ≡ Passed → r ≡ after → r ≡ or before after
+pub or-go_on : {found before after r : Check} → found ≡ before → found ≡ Ok tt → r ≡ after → r ≡ or before after
 or-go_on {after = after} e p h = h ∙ ap (λ (x : Check). or x after) (sym p ∙ e)
 
-pub or-stop : {found before : Check} {r : Refusal} (after : Check) → found ≡ before → found ≡ Refused r → Refused r ≡ or before after
-or-stop after e p = ap (λ (x : Check). or x after) (sym p ∙ e)
+pub both : (c d : Check) → or c d ≡ Ok tt → (c ≡ Ok tt) × (d ≡ Ok tt)
+both (Ok _) d e = (refl, e)
+both (Err r) d e = absurd (let z : ◌≡◌ {A = ℕ} 0 1 = cc in omega arith)
 
-pub both : (c d : Check) → or c d ≡ Passed → (c ≡ Passed) × (d ≡ Passed)
-both Passed d e = (refl, e)
-both (Refused r) d e = absurd (let z : ◌≡◌ {A = ℕ} 0 1 = cc in omega arith)
-
-pub cut : (k l : List Check) → first (k ++ l) ≡ Passed → (first k ≡ Passed) × (first l ≡ Passed)
+pub cut : (k l : List Check) → first (k ++ l) ≡ Ok tt → (first k ≡ Ok tt) × (first l ≡ Ok tt)
 cut k l e = both (first k) (first l) (sym (first-append k l) ∙ e)
 
 -- Never both.
-pub passed_refused : {c : Check} {r : Refusal} → c ≡ Passed → c ≡ Refused r → ⊥
+pub passed_refused : {c : Check} {r : Refusal} → c ≡ Ok tt → c ≡ Err r → ⊥
 passed_refused e d = let z : ◌≡◌ {A = ℕ} 0 1 = cc in omega arith
 
 -- Of two, the first refuses, or passes and the second does.
-pub or_refused : (c d : Check) (r : Refusal) → or c d ≡ Refused r → (c ≡ Refused r) ⊎ ((c ≡ Passed) × (d ≡ Refused r))
-or_refused Passed d r e = inr (refl, e)
-or_refused (Refused q) d r e = inl e
+pub or_refused : (c d : Check) (r : Refusal) → or c d ≡ Err r → (c ≡ Err r) ⊎ ((c ≡ Ok tt) × (d ≡ Err r))
+or_refused (Ok _) d r e = inr (refl, e)
+or_refused (Err q) d r e = inl e
 
-pub passes : (b : Bool) (c : Case) (ring place : ℕ) → refuse_if b c ring place ≡ Passed → b ≡ false
+pub passes : (b : Bool) (c : Case) (ring place : ℕ) → refuse_if b c ring place ≡ Ok tt → b ≡ false
 passes true c ring place e = absurd (let z : ◌≡◌ {A = ℕ} 0 1 = cc in omega arith)
 passes false c ring place e = refl
 
-pub refuses : (b : Bool) (c : Case) (ring place : ℕ) (r : Refusal) → refuse_if b c ring place ≡ Refused r → (b ≡ true) × (record { case = c; ring = ring; place = place } ≡ r)
+pub refuses : (b : Bool) (c : Case) (ring place : ℕ) (r : Refusal) → refuse_if b c ring place ≡ Err r → (b ≡ true) × (record { case = c; ring = ring; place = place } ≡ r)
 refuses true c ring place r e = (refl, cc (e))
 refuses false c ring place r e = absurd (passed_refused refl e)
 

@@ -1,14 +1,14 @@
 // What a call can answer: refusals and answers, by name and in the paper's numbers.
 #![tactic(auto)]
 
-ghost use Rattle.std.specs.Prelude.{◌≡◌};
-ghost use Rattle.answer.specs.First.{or};
+ghost use Rattle.std.specs.Prelude.{◌≡◌, Err};
 ghost use Rattle.answer.specs.Refuse.{refuse_if};
 ghost use Rattle.answer.specs.Numbers.{row, refusal_row};
 ghost use Rattle.answer.specs.Reply.{tell, refusal_reply, reply};
+ghost use Rattle.answer.specs.declared.Failure.TheVariants.{Refused};
 
 // The refusals of documents 01 and 02 by name: those of document 01's table, those of an entry of a factor list and of its powers, then those of a sheet.
-#[derive(Clone, Copy)]
+#[derive(Clone, Copy, Debug, PartialEq, Eq)]
 pub enum Case {
     Empty,
     Large,
@@ -30,7 +30,7 @@ pub enum Case {
 }
 
 // What a number tells besides.
-#[derive(Clone, Copy)]
+#[derive(Clone, Copy, Debug, PartialEq, Eq)]
 pub enum Told {
     Nothing,
     Ring,
@@ -40,14 +40,14 @@ pub enum Told {
 }
 
 // A row of the table of numbers.
-#[derive(Clone, Copy)]
+#[derive(Clone, Copy, Debug, PartialEq, Eq)]
 pub struct Row {
     pub number: u32,
     pub told: Told,
 }
 
 // A refusal, with the ring and the place that it tells; 0 where it tells none. That of an entry of a factor list has the entry's place, a sheet's its offset.
-#[derive(Clone, Copy)]
+#[derive(Clone, Copy, Debug, PartialEq, Eq)]
 pub struct Refusal {
     pub case: Case,
     pub ring: usize,
@@ -55,23 +55,29 @@ pub struct Refusal {
 }
 
 // What a check finds: nothing, or a refusal.
-#[derive(Clone, Copy)]
-pub enum Check {
-    Passed,
-    Refused(Refusal),
-}
+pub type Check = Result<(), Refusal>;
 
-// The answer of a call that fills an output; the output stands beside it.
-#[derive(Clone, Copy)]
-pub enum Answer {
-    Done,
+// Why a call did not do what it was asked: its pattern is singular, and has this smallest singular prime, or the call was refused.
+#[derive(Clone, Copy, Debug, PartialEq, Eq)]
+pub enum Failure {
     Singular { ring: usize, prime: u32 },
     Refused(Refusal),
 }
 
+impl From<Refusal> for Failure {
+    ghost from_gives = { λ r f. f ≡ Refused r };
+
+    fn from(refusal: Refusal) -> Failure {
+        Failure::Refused(refusal)
+    }
+}
+
+// The answer of a call that fills an output; the output stands beside it.
+pub type Answer = Result<(), Failure>;
+
 // An answer in the paper's numbers, for C and for print.
 #[repr(C)]
-#[derive(Clone, Copy)]
+#[derive(Clone, Copy, Default)]
 pub struct Reply {
     pub number: u32,
     pub prime: u32,
@@ -79,98 +85,102 @@ pub struct Reply {
     pub place: usize,
 }
 
-impl Check {
-    // The first of two checks that finds something.
-    pub fn or(self, next: Check) -> Check
-        ensures { result ≡ or self next }
-    {
-        match self {
-            Check::Passed => next,
-            Check::Refused(refusal) => Check::Refused(refusal),
-        }
-    }
-}
-
 // A check that refuses where the test holds.
 pub fn refuse_if(test: bool, case: Case, ring: usize, place: usize) -> Check
     ensures { result ≡ refuse_if test case ring place }
 {
     if test {
-        return Check::Refused(Refusal { case, ring, place });
+        return Err(Refusal { case, ring, place });
     }
-    Check::Passed
+    Ok(())
 }
 
-fn numbered(number: u32, told: Told) -> Row
-    ensures { result ≡ row number told }
-{
-    Row { number, told }
-}
+impl Row {
+    fn new(number: u32, told: Told) -> Row
+        ensures { result ≡ row number told }
+    {
+        Row { number, told }
+    }
 
-// The table of numbers.
-pub fn row_of(case: Case) -> Row
-    ensures { result ≡ refusal_row case }
-{
-    match case {
-        Case::Empty => numbered(1, Told::Nothing),
-        Case::Large => numbered(2, Told::Nothing),
-        Case::Mismatch => numbered(3, Told::Ring),
-        Case::Modulus => numbered(4, Told::Nothing),
-        Case::Factors => numbered(5, Told::Nothing),
-        Case::Coefficient => numbered(6, Told::RingAndPlace),
-        Case::Room => numbered(7, Told::Nothing),
-        Case::Divisor => numbered(8, Told::Nothing),
-        Case::Exponent => numbered(10, Told::Place),
-        Case::Prime => numbered(11, Told::Place),
-        Case::Order => numbered(12, Told::Place),
-        Case::Product => numbered(13, Told::Nothing),
-        Case::Cut => numbered(20, Told::Place),
-        Case::Tag => numbered(21, Told::Place),
-        Case::Length => numbered(22, Told::Place),
-        Case::Missing => numbered(23, Told::Place),
-        Case::Version => numbered(24, Told::Place),
+    // What the row tells, and 0 for what it does not.
+    fn tell(self, ring: usize, place: usize, prime: u32) -> Reply
+        ensures { result ≡ tell self ring place prime }
+    {
+        let (ring, place, prime) = match self.told {
+            Told::Nothing => (0, 0, 0),
+            Told::Ring => (ring, 0, 0),
+            Told::RingAndPlace => (ring, place, 0),
+            Told::RingAndPrime => (ring, 0, prime),
+            Told::Place => (0, place, 0),
+        };
+        Reply {
+            number: self.number,
+            prime,
+            ring,
+            place,
+        }
     }
 }
 
-fn with_number(number: u32, ring: usize, place: usize, prime: u32) -> Reply
-    ensures { result ≡ record { number = number; prime = prime; ring = ring; place = place } }
-{
-    Reply {
-        number,
-        prime,
-        ring,
-        place,
+const SINGULAR: Row = Row {
+    number: 9,
+    told: Told::RingAndPrime,
+};
+
+impl Case {
+    // The table of numbers.
+    pub fn row(self) -> Row
+        ensures { result ≡ refusal_row self }
+    {
+        match self {
+            Case::Empty => Row::new(1, Told::Nothing),
+            Case::Large => Row::new(2, Told::Nothing),
+            Case::Mismatch => Row::new(3, Told::Ring),
+            Case::Modulus => Row::new(4, Told::Nothing),
+            Case::Factors => Row::new(5, Told::Nothing),
+            Case::Coefficient => Row::new(6, Told::RingAndPlace),
+            Case::Room => Row::new(7, Told::Nothing),
+            Case::Divisor => Row::new(8, Told::Nothing),
+            Case::Exponent => Row::new(10, Told::Place),
+            Case::Prime => Row::new(11, Told::Place),
+            Case::Order => Row::new(12, Told::Place),
+            Case::Product => Row::new(13, Told::Nothing),
+            Case::Cut => Row::new(20, Told::Place),
+            Case::Tag => Row::new(21, Told::Place),
+            Case::Length => Row::new(22, Told::Place),
+            Case::Missing => Row::new(23, Told::Place),
+            Case::Version => Row::new(24, Told::Place),
+        }
     }
 }
 
-// What the row tells, and 0 for what it does not.
-fn tell(row: Row, ring: usize, place: usize, prime: u32) -> Reply
-    ensures { result ≡ tell row ring place prime }
-{
-    let told = row.told;
-    match told {
-        Told::Nothing => with_number(row.number, 0, 0, 0),
-        Told::Ring => with_number(row.number, ring, 0, 0),
-        Told::RingAndPlace => with_number(row.number, ring, place, 0),
-        Told::RingAndPrime => with_number(row.number, ring, 0, prime),
-        Told::Place => with_number(row.number, 0, place, 0),
+impl From<Refusal> for Reply {
+    ghost from_gives = { λ refusal r. r ≡ refusal_reply refusal };
+
+    fn from(refusal: Refusal) -> Reply {
+        refusal.case.row().tell(refusal.ring, refusal.place, 0)
     }
 }
 
-fn tell_refusal(r: Refusal) -> Reply
-    ensures { result ≡ refusal_reply r }
-{
-    let case = r.case;
-    tell(row_of(case), r.ring, r.place, 0)
+impl From<Failure> for Reply {
+    ghost from_gives = { λ failure r. r ≡ reply (Err failure) };
+
+    fn from(failure: Failure) -> Reply {
+        match failure {
+            Failure::Singular { ring, prime } => SINGULAR.tell(ring, 0, prime),
+            Failure::Refused(refusal) => Reply::from(refusal),
+        }
+    }
 }
 
-// The answer in the paper's numbers.
-pub fn reply_of(answer: Answer) -> Reply
-    ensures { result ≡ reply answer }
-{
-    match answer {
-        Answer::Done => with_number(0, 0, 0, 0),
-        Answer::Singular { ring, prime } => tell(numbered(9, Told::RingAndPrime), ring, 0, prime),
-        Answer::Refused(refusal) => tell_refusal(refusal),
+// The answer in the paper's numbers: 0 for done.
+impl From<Answer> for Reply {
+    ghost from_gives = { λ answer r. r ≡ reply answer };
+
+    fn from(answer: Answer) -> Reply {
+        match answer {
+            Ok(()) => Reply::default(),
+            Err(failure) => Reply::from(failure),
+        }
     }
 }

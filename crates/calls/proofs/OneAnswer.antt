@@ -3,7 +3,7 @@
 use Prim.Native.Nat.{ℕ}
 use mathlib.Core.Path.{◌≡◌}
 use mathlib.Core.List.{List}
-use Rattle.answer.specs.declared.Answer.{Answer}
+use Rattle.answer.specs.Answer.{Answer}
 use Rattle.answer.proofs.OneAnswer.{one_fill}
 use lib.ListN.{length}
 use Rattle.ring.specs.Mix.{mix}

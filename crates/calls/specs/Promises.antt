@@ -8,8 +8,8 @@ use Rattle.ring.specs.Fold.{fold}
 use Rattle.checks.specs.Checks as checks
 use Rattle.checks.specs.Order.{ring_order, no_list}
 use Rattle.answer.specs.Contract.{Fills}
-use Rattle.answer.specs.declared.Check.{Check}
-use Rattle.answer.specs.declared.Answer.{Answer}
+use Rattle.answer.specs.Check.{Check}
+use Rattle.answer.specs.Answer.{Answer}
 
 -- "Mix two rings modulo m." Refusals 1, 2, 3, 4, 6, 7.
 abbrev pub mix_order : List ℕ → List ℕ → ℕ → ℕ → List Check

@@ -9,7 +9,7 @@ use Rattle.answer.proofs.OneAnswer.{one-reply}
 use Rattle.calls.specs.Promises.{Mixes, Reduces, Folds}
 use Rattle.calls.proofs.OneAnswer.{mix-one_answer, reduce-one_answer, fold-one_answer}
 use Rattle.pattern.specs.Sent.{Sent}
-use Rattle.pattern.specs.Factored.{Factored}
+use Rattle.factors.specs.Factored.{Factored}
 use Rattle.pattern.specs.Promises.{Inverts, Unmixes}
 use Rattle.pattern.proofs.OneAnswer.{invert_one_answer, unmix_one_answer, same_one_answer}
 use Rattle.sheet.specs.Sheets.{sheet_of}

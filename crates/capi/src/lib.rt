@@ -3,40 +3,41 @@
 #![tactic(auto)]
 
 ghost use Rattle.std.specs.Prelude.{◌≡◌};
-ghost use Rattle.answer.specs.Reply.{reply, Replied};
+ghost use Rattle.answer.specs.Reply.{Replied};
 ghost use Rattle.calls.specs.Promises.{Mixes, Reduces, Folds};
 ghost use Rattle.pattern.specs.Sent.{sent};
-ghost use Rattle.pattern.specs.Factored.{factored};
+ghost use Rattle.factors.specs.Factored.{factored};
 ghost use Rattle.pattern.specs.Promises.{Inverts, Unmixes};
 ghost use Rattle.sheet.specs.Sheets.{sheet_of};
 ghost use Rattle.page.specs.Report.{Reports};
-ghost use Rattle.capi.specs.Flag.{flag};
-ghost use Rattle.capi.specs.Judgement.{judgement, Judges};
-ghost use Rattle.capi.specs.SheetReply.{answered, sheet_reply};
+ghost use Rattle.capi.specs.Judgement.{judgement_of, Judges};
+ghost use Rattle.capi.specs.SheetReply.{accepted, refused, sheet_reply};
 
-use answer::{Answer, Check, Reply, reply_of};
-use feeding::Verdict;
+use answer::{Failure, Refusal, Reply};
+use factors::Factored;
+use feeding::Sent;
+use fields::Part;
 use sheet::{Sheet, read};
 
 #[unsafe(no_mangle)]
 pub extern "C" fn dowelbrook_mix(a: &[u32], b: &[u32], m: u32, out: &mut [u32]) -> Reply
     ensures { Replied (λ answer. Mixes a.now b.now m out.old answer out.new) result }
 {
-    reply_of(calls::mix(a, b, m, out))
+    Reply::from(calls::mix(a, b, m, out))
 }
 
 #[unsafe(no_mangle)]
 pub extern "C" fn dowelbrook_reduce(a: &[u32], m: u32, divisor: u32, out: &mut [u32]) -> Reply
     ensures { Replied (λ answer. Reduces a.now m divisor out.old answer out.new) result }
 {
-    reply_of(calls::reduce(a, m, divisor, out))
+    Reply::from(calls::reduce(a, m, divisor, out))
 }
 
 #[unsafe(no_mangle)]
 pub extern "C" fn dowelbrook_fold(a: &[u32], m: u32, out: &mut [u32]) -> Reply
     ensures { Replied (λ answer. Folds a.now m out.old answer out.new) result }
 {
-    reply_of(calls::fold(a, m, out))
+    Reply::from(calls::fold(a, m, out))
 }
 
 #[unsafe(no_mangle)]
@@ -49,7 +50,12 @@ pub extern "C" fn dowelbrook_invert(
 ) -> Reply
     ensures { Replied (λ answer. Inverts f.now (factored m primes.now exponents.now) out.old answer out.new) result }
 {
-    reply_of(invert::invert(f, m, primes, exponents, out))
+    let list = Factored {
+        modulus: m,
+        primes,
+        exponents,
+    };
+    Reply::from(invert::invert(f, list, out))
 }
 
 #[unsafe(no_mangle)]
@@ -63,13 +69,16 @@ pub extern "C" fn dowelbrook_unmix(
 ) -> Reply
     ensures { Replied (λ answer. Unmixes (sent f.now y.now) (factored m primes.now exponents.now) out.old answer out.new) result }
 {
-    reply_of(feeding::unmix(f, y, m, primes, exponents, out))
-}
-
-fn flag(test: bool) -> usize
-    ensures { result ≡ flag test }
-{
-    if test { 1 } else { 0 }
+    let sent = Sent {
+        pattern: f,
+        readings: y,
+    };
+    let list = Factored {
+        modulus: m,
+        primes,
+        exponents,
+    };
+    Reply::from(feeding::unmix(sent, list, out))
 }
 
 // A reply, and whether the feedings are the same: 1 or 0.
@@ -83,23 +92,20 @@ pub struct Judgement {
     pub same: usize,
 }
 
-fn with_reply(reply: Reply, same: usize) -> Judgement
-    ensures { result ≡ judgement reply same }
-{
-    Judgement {
-        number: reply.number,
-        prime: reply.prime,
-        ring: reply.ring,
-        place: reply.place,
-        same,
-    }
-}
+impl From<Result<bool, Failure>> for Judgement {
+    ghost from_gives = { λ told judgement. judgement ≡ judgement_of told };
 
-fn judgement_of(verdict: Verdict) -> Judgement
-    ensures { result ≡ judgement (reply verdict.answer) (flag verdict.same) }
-{
-    let answer = verdict.answer;
-    with_reply(reply_of(answer), flag(verdict.same))
+    fn from(told: Result<bool, Failure>) -> Judgement {
+        let same = usize::from(told.unwrap_or(false));
+        let reply = Reply::from(told.map(|_| ()));
+        Judgement {
+            number: reply.number,
+            prime: reply.prime,
+            ring: reply.ring,
+            place: reply.place,
+            same,
+        }
+    }
 }
 
 #[unsafe(no_mangle)]
@@ -114,12 +120,25 @@ pub extern "C" fn dowelbrook_same_feeding(
 ) -> Judgement
     ensures { Judges (sent f1.now y1.now) (sent f2.now y2.now) (factored m primes.now exponents.now) result }
 {
-    judgement_of(feeding::same_feeding(f1, y1, f2, y2, m, primes, exponents))
+    let first = Sent {
+        pattern: f1,
+        readings: y1,
+    };
+    let second = Sent {
+        pattern: f2,
+        readings: y2,
+    };
+    let list = Factored {
+        modulus: m,
+        primes,
+        exponents,
+    };
+    Judgement::from(feeding::same_feeding(first, second, list))
 }
 
 // What a sheet holds and where, or the refusal in the paper's numbers. Offsets count from the sheet's first byte.
 #[repr(C)]
-#[derive(Clone, Copy)]
+#[derive(Clone, Copy, Default)]
 pub struct SheetReply {
     pub number: u32,
     pub modulus: u32,
@@ -133,34 +152,35 @@ pub struct SheetReply {
     pub readings_len: usize,
 }
 
-fn answer_of(check: Check) -> Answer
-    ensures { result ≡ answered check }
-{
-    match check {
-        Check::Passed => Answer::Done,
-        Check::Refused(refusal) => Answer::Refused(refusal),
+impl From<Sheet> for SheetReply {
+    ghost from_gives = { λ sheet r. r ≡ accepted sheet };
+
+    fn from(sheet: Sheet) -> SheetReply {
+        let readings = sheet.readings.unwrap_or(Part { from: 0, len: 0 });
+        SheetReply {
+            modulus: sheet.modulus,
+            factors_from: sheet.factors.from,
+            factors_len: sheet.factors.len,
+            pattern_from: sheet.pattern.from,
+            pattern_len: sheet.pattern.len,
+            readings_present: usize::from(sheet.readings.is_some()),
+            readings_from: readings.from,
+            readings_len: readings.len,
+            ..SheetReply::default()
+        }
     }
 }
 
-fn sheet_reply(sheet: Sheet) -> SheetReply
-    ensures { result ≡ sheet_reply sheet }
-{
-    let verdict = sheet.verdict;
-    let reply = reply_of(answer_of(verdict));
-    let factors = sheet.factors;
-    let pattern = sheet.pattern;
-    let readings = sheet.readings;
-    SheetReply {
-        number: reply.number,
-        modulus: sheet.modulus,
-        place: reply.place,
-        factors_from: factors.from,
-        factors_len: factors.len,
-        pattern_from: pattern.from,
-        pattern_len: pattern.len,
-        readings_present: flag(readings.present),
-        readings_from: readings.from,
-        readings_len: readings.len,
+impl From<Refusal> for SheetReply {
+    ghost from_gives = { λ refusal r. r ≡ refused refusal };
+
+    fn from(refusal: Refusal) -> SheetReply {
+        let reply = Reply::from(refusal);
+        SheetReply {
+            number: reply.number,
+            place: reply.place,
+            ..SheetReply::default()
+        }
     }
 }
 
@@ -168,7 +188,10 @@ fn sheet_reply(sheet: Sheet) -> SheetReply
 pub extern "C" fn dowelbrook_read_sheet(sheet: &[u8]) -> SheetReply
     ensures { result ≡ sheet_reply (sheet_of sheet.now) }
 {
-    sheet_reply(read(sheet))
+    match read(sheet) {
+        Ok(sheet) => SheetReply::from(sheet),
+        Err(refusal) => SheetReply::from(refusal),
+    }
 }
 
 #[unsafe(no_mangle)]

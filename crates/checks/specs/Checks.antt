@@ -1,8 +1,9 @@
 -- The checks 1 to 8 of document 01's table, but for 5, which is in Factors.antt. Limits are arguments.
-use Rattle.std.specs.Prelude.{ℕ, zero, suc, ◌%◌, Bool, true, false, not, ◌||◌, List, [], ◌∷◌, eqb, ltb, length}
+use Rattle.std.specs.Prelude.{ℕ, ◌%◌, not, ◌||◌, List, eqb, leb, ltb, length}
+use Rattle.std.specs.List.{position_or_len}
 use Rattle.answer.specs.Refuse.{refuse_if}
 use Rattle.answer.specs.declared.Case.TheVariants.{Empty, Large, Mismatch, Modulus, Coefficient, Room, Divisor}
-use Rattle.answer.specs.declared.Check.{Check}
+use Rattle.answer.specs.Check.{Check}
 
 -- 1: "ring 1 has no entry". n is its length.
 abbrev pub empty : ℕ → Check
@@ -21,14 +22,9 @@ abbrev pub modulus : ℕ → ℕ → ℕ → Check
 modulus least most m = refuse_if (ltb m least || ltb most m) Modulus 0 0
 
 -- 6: "an entry is m or more". The ring and "its first such place" are told.
-abbrev next : Bool → ℕ → ℕ
-next true k = suc k
-next false k = zero
-
 -- (the place of the first entry that is m or more; the length where there is none)
 unfoldable pub first_high : ℕ → List ℕ → ℕ
-first_high m [] = zero
-first_high m (x ∷ a) = next (ltb x m) (first_high m a)
+first_high m a = position_or_len (leb m) a
 
 abbrev pub coefficient : ℕ → ℕ → List ℕ → Check
 coefficient m ring a = refuse_if (ltb (first_high m a) (length a)) Coefficient ring (first_high m a)

@@ -6,7 +6,7 @@ use Rattle.modular.specs.FactorList.{powers}
 use Rattle.modular.specs.PrimeTest.{prime?}
 use Rattle.answer.specs.First.{first}
 use Rattle.answer.specs.Refuse.{refuse_if}
-use Rattle.answer.specs.declared.Check.{Check}
+use Rattle.answer.specs.Check.{Check}
 use Rattle.answer.specs.declared.Case.TheVariants.{Factors, Exponent, Prime, Order, Product}
 
 -- 5: "lists of unequal length, no entries, or more than seven". There are so many primes, and so many exponents.

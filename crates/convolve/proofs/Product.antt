@@ -27,8 +27,8 @@ sum_turn (suc n) f =
     rw (e, s, sum_turn n (λ i. f (suc i))) (sum_step n f)
 
 module _ (a b : List ℕ) (m : ℕ) (out : List ℕ) (p : Mixable a b m out) where
-  pub laid : Rows (backwards a) (around (length a + length a + 3) b) m out
-  laid = record {
+  laid_out : Rows (backwards a) (around (length a + length a + 3) b) m out
+  laid_out = record {
     twice = rw (length-around (length a + length a + 3) b, length-backwards a);
     same = p.same_out ∙ sym (length-backwards a);
     low_x = λ i. lt_of_lt_of_le (low_backwards a m p.positive p.low_a i) p.limit;
@@ -46,6 +46,14 @@ module _ (a b : List ℕ) (m : ℕ) (out : List ℕ) (p : Mixable a b m out) whe
       refl)
       ∙ sum_turn (length a) (λ i. at a i * at b ((k + (length a - i)) % length a)))
 
-  pub product : table (length out) (λ k. along (backwards a) (around (length a + length a + 3) b) (k + 1) % m) ≡ mix (length a) m a b
+  sums : table (length out) (λ k. along (backwards a) (around (length a + length a + 3) b) (k + 1) % m) ≡ mix (length a) m a b
   unfolding mix
-  product = rw p.same_out (table_eq (length a) _ _ (λ k h. ap (λ (z : ℕ). z % m) (entry k h)))
+  sums = rw p.same_out (table_eq (length a) _ _ (λ k h. ap (λ (z : ℕ). z % m) (entry k h)))
+
+  -- The layouts x and d.
+  module _ {x d : List ℕ} {e : ℕ} (hx : x ≡ backwards a) (hd : d ≡ around e b) (he : e ≡ length a + length a + 3) where
+    pub laid : Rows x d m out
+    laid = rw (hx, hd, he) laid_out
+
+    pub product : table (length out) (λ k. along x d (k + 1) % m) ≡ mix (length a) m a b
+    product = rw (hx, hd, he) sums

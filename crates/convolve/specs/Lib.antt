@@ -1,4 +1,3 @@
-pub mod Few
 pub mod Mixable
 pub mod Layout
 pub mod Inner

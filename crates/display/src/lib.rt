@@ -6,106 +6,74 @@ ghost use Rattle.answer.specs.First.{first};
 ghost use Rattle.page.specs.Outcome.{held_order};
 ghost use Rattle.page.specs.Report.{text_room};
 ghost use Rattle.display.specs.Decoded.{decoded, ShowsHeld};
-ghost use Rattle.display.specs.Inner.{LegalSheet, LegalSheetIn};
+ghost use Rattle.display.specs.Inner.{LegalSheet, CanSolve, Solving};
 
-use answer::Check;
-use checks::{check_ring, check_rings};
-use factors::check_factors;
-use feeding::unmix_legal;
-use invert::{Inversion, invert_legal};
+use answer::Refusal;
+use factors::Factored;
+use feeding::{Sent, unmix_legal};
+use invert::{Ghost, invert_legal};
 use limits::MOST_ENTRIES;
-use print::{put_counts, put_ghost, put_inverse, put_refusal};
+use print::{put_ghost, put_inverse, put_refusal};
 
-// A legal sheet, with n entries or more lent for the inverse and for the counts.
-fn display_legal_in(
-    f: &[u32],
-    y: &[u32],
-    present: bool,
-    m: u32,
-    primes: &[u32],
-    exponents: &[u8],
-    inverse: &mut [u32],
-    counts: &mut [u32],
-    text: &mut [u8],
-) -> usize
-    requires { LegalSheetIn (decoded f.now y.now present m primes.now exponents.now) inverse.old counts.old text.old }
-    ensures { ShowsHeld (decoded f.now y.now present m primes.now exponents.now) text.old text.new result }
-{
-    let n = f.len();
-    let g = &mut inverse[..n];
-    if present {
-        let c = &mut counts[..n];
-        return match unmix_legal(f, y, m, primes, exponents, g, c) {
-            Inversion::Inverted => put_counts(text, n, m, g, c),
-            Inversion::Ghost(p) => put_ghost(text, n, m, p, g),
-        };
-    }
-    match invert_legal(f, m, primes, exponents, g) {
-        Inversion::Inverted => put_inverse(text, n, m, g),
-        Inversion::Ghost(p) => put_ghost(text, n, m, p, g),
-    }
-}
-
-fn display_legal(
-    f: &[u32],
-    y: &[u32],
-    present: bool,
-    m: u32,
-    primes: &[u32],
-    exponents: &[u8],
-    text: &mut [u8],
-) -> usize
-    requires { LegalSheet (decoded f.now y.now present m primes.now exponents.now) text.old }
-    ensures { ShowsHeld (decoded f.now y.now present m primes.now exponents.now) text.old text.new result }
-{
-    let mut inverse = [0u32; MOST_ENTRIES];
-    let mut counts = [0u32; MOST_ENTRIES];
-    display_legal_in(
-        f,
-        y,
-        present,
-        m,
-        primes,
-        exponents,
-        &mut inverse,
-        &mut counts,
-        text,
-    )
+// What a sheet holds: a pattern, its readings where there are any, and a modulus with its factor list.
+#[derive(Clone, Copy)]
+pub struct Held<'a> {
+    pub pattern: &'a [u32],
+    pub readings: Option<&'a [u32]>,
+    pub list: Factored<'a>,
 }
 
 // "With readings present, both rings are checked before anything is inverted."
-fn check_held(
-    f: &[u32],
-    y: &[u32],
-    present: bool,
-    m: u32,
-    primes: &[u32],
-    exponents: &[u8],
-) -> Check
-    ensures { result ≡ first (held_order (decoded f.now y.now present m primes.now exponents.now)) }
+fn check_held(held: Held<'_>) -> Result<(), Refusal>
+    ensures { result ≡ first (held_order (decoded held.entry)) }
 {
-    let factors = check_factors(primes, exponents, m);
-    if present {
-        return check_rings(f, y, m, factors);
+    held.list
+        .check_rings(held.pattern, held.readings.as_slice())
+}
+
+// `inverse` becomes the inverse of the pattern, or its ghost. The counts are told where there are readings.
+fn solve<'a>(
+    held: Held<'_>,
+    inverse: &mut [u32],
+    counts: &'a mut [u32],
+) -> Result<Option<&'a [u32]>, Ghost>
+    requires { CanSolve (decoded held) inverse.old counts.old }
+    ensures { Solving (decoded held.entry) inverse.new result }
+{
+    let Some(readings) = held.readings else {
+        invert_legal(held.pattern, held.list, inverse)?;
+        return Ok(None);
+    };
+    let sent = Sent {
+        pattern: held.pattern,
+        readings,
+    };
+    unmix_legal(sent, held.list, inverse, counts)?;
+    Ok(Some(counts))
+}
+
+// The page of a sheet that no check refuses.
+fn display_legal(held: Held<'_>, text: &mut [u8]) -> usize
+    requires { LegalSheet (decoded held) text.old }
+    ensures { ShowsHeld (decoded held.entry) text.old text.new result }
+{
+    let n = held.pattern.len();
+    let m = held.list.modulus;
+    let inverse = &mut [0u32; MOST_ENTRIES][..n];
+    let counts = &mut [0u32; MOST_ENTRIES][..n];
+    match solve(held, inverse, counts) {
+        Ok(counts) => put_inverse(text, n, m, inverse, counts),
+        Err(why) => put_ghost(text, n, m, why.prime, inverse),
     }
-    check_ring(f, m, factors)
 }
 
 // Checks what a sheet holds, inverts or unmixes, and writes its page at the start of `text`; answers where it ends.
-pub fn display(
-    f: &[u32],
-    y: &[u32],
-    present: bool,
-    m: u32,
-    primes: &[u32],
-    exponents: &[u8],
-    text: &mut [u8],
-) -> usize
+pub fn display(held: Held<'_>, text: &mut [u8]) -> usize
     requires { text_room ≤ length text.old }
-    ensures { ShowsHeld (decoded f.now y.now present m primes.now exponents.now) text.old text.new result }
+    ensures { ShowsHeld (decoded held.entry) text.old text.new result }
 {
-    match check_held(f, y, present, m, primes, exponents) {
-        Check::Passed => display_legal(f, y, present, m, primes, exponents, text),
-        Check::Refused(refusal) => put_refusal(text, refusal),
+    match check_held(held) {
+        Ok(()) => display_legal(held, text),
+        Err(refusal) => put_refusal(text, refusal),
     }
 }

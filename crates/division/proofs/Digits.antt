@@ -5,10 +5,10 @@ use mathlib.Core.List.{List, ◌∷◌}
 use native.Mathlib.Omega.{arith}
 use native.Mathlib.Nat.{mod-add-mod, add-mod-mod, mod_self, mod-lt, mod-eq_of_lt}
 use Rattle.sums.specs.Table.{at}
-use Rattle.rows.specs.Row.{Prepared}
 use Rattle.series.specs.Series.{Reduced}
 use Rattle.division.specs.Terms.{Digit, Longer, NextTerms}
 use Rattle.division.specs.Division.{Divisible, Coefficients}
+use Rattle.division.specs.declared.Row.{Row}
 use Rattle.division.specs.declared.Terms.{Terms}
 use Rattle.series.proofs.Units.{inverse_unit}
 use Rattle.division.proofs.Linear.{two_away}
@@ -29,15 +29,16 @@ unfolding Reduced
 held_low h = h.reduced
 
 -- rest is what is next once the top is away.
-pub next_two : {p l₀ l₁ z : ℕ} {r0 r1 : List ℕ} → Longer p l₀ l₁ r0 r1 z → (t : Terms) {rest : ℕ} → Digit p (at r0 (l₀ - 1)) z t.high → rest ≡ (at r0 (l₀ - 2) + t.high * at (0 ∷ r1) (l₁ - 1)) % p → Digit p rest z t.low
-    → Prepared p t.low t.w → Prepared p t.high t.v → t.shift ≡ l₀ - l₁ - 1 → NextTerms p l₀ l₁ r0 r1 t
-next_two {p} {l₀} {l₁} {z} {r0} {r1} h t {rest} g e g' low high shift = record {
+pub next_two : {p top z : ℕ} {a b : Row} → Longer p top a b z → (t : Terms) {rest : ℕ} → Digit p (at a.remainder (top - 1)) z t.high.value
+    → rest ≡ (at a.remainder (top - 2) + t.high.value * at (0 ∷ b.remainder) (b.len - 1)) % p → Digit p rest z t.low.value → t.low.modulus ≡ p → t.high.modulus ≡ p
+    → t.shift ≡ top - b.len - 1 → NextTerms p top a b t
+next_two {p} {top} {z} {a} {b} h t {rest} g e g' low high shift = record {
   low = low;
   high = high;
   shift = shift;
-  away = rw shift (two_away p z l₁ r0 r1 d.below₁ d.some (inverse_unit d.modulus.two d.lead) l₀ t.low t.high rest h.order d.below₀ g.sum e g'.sum);
+  away = rw shift (two_away p z b.len a.remainder b.remainder d.below₁ d.some (inverse_unit d.modulus.two d.lead) top t.low.value t.high.value rest h.order d.below₀ g.sum e g'.sum);
   none = λ n. digit_none n g;
 }
   where
-    d : Divisible p l₀ l₁ r0 r1 z
+    d : Divisible p top a b z
     d = h.division

@@ -1,5 +1,5 @@
--- The loop of a division: r is what r0 was plus a polynomial times r1, s what s0 was plus the same polynomial times s1, and r has at most l coefficients. It
--- starts with the polynomial 0, and each turn adds two terms to it, from the place h past the top, l or one more, so that h - l₁ is odd. Assumes nothing.
+-- The loop of a division: the row r is what a was plus a polynomial times b, with at most r.len coefficients. It starts with the polynomial 0, and each turn
+-- adds two terms to it, from the place h past the top, r.len or one more, so that h - b.len is odd. Assumes nothing.
 use Prim.Native.Nat.{ℕ, suc, ◌+◌, ◌-◌, ◌≤◌, ◌<◌}
 use mathlib.Core.Path.{◌≡◌, sym, ◌∙◌, ap}
 use mathlib.Core.List.{List}
@@ -7,51 +7,50 @@ use native.Mathlib.Decide.{dec_lt}
 use native.Mathlib.Omega.{arith}
 use Rattle.sums.specs.Table.{at}
 use Rattle.series.specs.Series.{Series, Below, Reduced, Length}
-use Rattle.division.specs.Division.{Coefficients, Dividing, Divided}
-use Rattle.division.specs.Terms.{Trimmed, Longer, NextTerms, AddableTerms, Added}
+use Rattle.division.specs.Division.{Held, Dividing, Divided}
+use Rattle.division.specs.Terms.{Trimmed, Longer, NextTerms, Added}
 use Rattle.series.specs.Operations.{add, mul, zeros, linear}
+use Rattle.division.specs.declared.Row.{Row}
 use Rattle.division.specs.declared.Terms.{Terms}
 use Rattle.series.proofs.SeriesRing
 use Rattle.series.proofs.Degrees
 use Rattle.division.proofs.Linear.{linear_single, linear_below}
 use Rattle.series.proofs.Quotients.{in_parts}
 
-pub record Going (p l₀ l₁ : ℕ) (r0 r r1 s0 s s1 : List ℕ) (l : ℕ) : Type 0 where
+pub record Going (p : ℕ) (a r b : Row) : Type 0 where
   pub quotient : Series
-  pub short : Below (l₀ + 1 - l₁) quotient
-  pub sum : at r ≡ add p (at r0) (mul p quotient (at r1))
-  pub cofactor : at s ≡ add p (at s0) (mul p quotient (at s1))
-  pub held_r : Coefficients p r
-  pub held_s : Coefficients p s
-  pub below : Below l (at r)
-  pub most : l ≤ l₀
-  pub length : l < l₁ → Length (at r) l
+  pub short : Below (a.len + 1 - b.len) quotient
+  pub sum : at r.remainder ≡ add p (at a.remainder) (mul p quotient (at b.remainder))
+  pub cofactor : at r.cofactor ≡ add p (at a.cofactor) (mul p quotient (at b.cofactor))
+  pub held : Held p r
+  pub below : Below r.len (at r.remainder)
+  pub most : r.len ≤ a.len
+  pub length : r.len < b.len → Length (at r.remainder) r.len
 
-module _ {p l₀ l₁ k z : ℕ} {r0 r1 s0 s1 : List ℕ} (d : Dividing p l₀ l₁ k r0 r1 s0 s1 z) where
-  pub going_start : Going p l₀ l₁ r0 r0 r1 s0 s0 s1 l₀
+module _ {p k z : ℕ} {a b : Row} (d : Dividing p k a b z) where
+  pub going_start : Going p a a b
   going_start = record {
     quotient = zeros;
-    short = Degrees.below_zeros (l₀ + 1 - l₁);
-    sum = none (at r0) (at r1) d.division.dividend.reduced;
-    cofactor = none (at s0) (at s1) d.cofactors.dividend.reduced;
-    held_r = d.division.dividend;
-    held_s = d.cofactors.dividend;
+    short = Degrees.below_zeros (a.len + 1 - b.len);
+    sum = none (at a.remainder) (at b.remainder) d.division.dividend.remainder.reduced;
+    cofactor = none (at a.cofactor) (at b.cofactor) d.division.dividend.cofactor.reduced;
+    held = d.division.dividend;
     below = d.division.below₀;
     most = omega arith;
     length = λ h. absurd (omega (arith, d.order));
   }
     where
-      none : (a b : Series) → Reduced p a → a ≡ add p a (mul p zeros b)
-      none a b h = sym (ap (add p a) (SeriesRing.zeros-mul p b) ∙ SeriesRing.add-zeros p a ∙ Degrees.red_id p a h)
+      none : (x y : Series) → Reduced p x → x ≡ add p x (mul p zeros y)
+      none x y h = sym (ap (add p x) (SeriesRing.zeros-mul p y) ∙ SeriesRing.add-zeros p x ∙ Degrees.red_id p x h)
 
-  module _ {r s : List ℕ} {l h : ℕ} (g : Going p l₀ l₁ r0 r r1 s0 s s1 l) (from : l ≤ h) (to : h ≤ l + 1) (odd : l₁ < h) where
-    pub longer : Longer p h l₁ r r1 z
+  module _ {r : Row} {h : ℕ} (g : Going p a r b) (from : r.len ≤ h) (to : h ≤ r.len + 1) (odd : b.len < h) where
+    pub longer : Longer p h r b z
     longer = record {
       division = record {
         modulus = d.division.modulus;
-        dividend = g.held_r;
+        dividend = g.held;
         divisor = d.division.divisor;
-        below₀ = Degrees.below_up l h (at r) from g.below;
+        below₀ = Degrees.below_up r.len h (at r.remainder) from g.below;
         below₁ = d.division.below₁;
         some = d.division.some;
         lead = d.division.lead;
@@ -60,64 +59,37 @@ module _ {p l₀ l₁ k z : ℕ} {r0 r1 s0 s1 : List ℕ} (d : Dividing p l₀ l
       most = omega (arith, g.most, d.room);
     }
 
-    module _ {t : Terms} (n : NextTerms p h l₁ r r1 t) where
-      pub addable_r : AddableTerms p t l₁ r r1
-      addable_r = record {
-        modulus = d.division.modulus;
-        low = n.low;
-        high = n.high;
-        onto = g.held_r;
-        from = d.division.divisor;
-        below = d.division.below₁;
-        room = omega (arith, n.shift, g.most, d.room);
-      }
+    module _ {t : Terms} (n : NextTerms p h r b t) where
+      abbrev terms : Series
+      terms = linear t.low.value t.high.value t.shift
 
-      pub addable_s : AddableTerms p t k s s1
-      addable_s = record {
-        modulus = d.division.modulus;
-        low = n.low;
-        high = n.high;
-        onto = g.held_s;
-        from = d.cofactors.divisor;
-        below = d.cofactors.below;
-        room = omega (arith, n.shift, g.most, d.cofactors.room);
-      }
-
-      -- The terms have l₀ + 1 - l₁ coefficients: where h is above l, the higher is 0.
-      terms_short : Below (l₀ + 1 - l₁) (linear t.low t.high t.shift)
-      terms_short = elim (dec_lt l h) [
-        | yes b ↦ rw (n.none (Degrees.below_at l (at r) g.below (h - 1) (omega arith))) (Degrees.below_up (suc t.shift) (l₀ + 1 - l₁) (linear t.low 0 t.shift) (omega (arith, n.shift, g.most)) (linear_single t.low t.shift))
-        | no b ↦ Degrees.below_up (suc (suc t.shift)) (l₀ + 1 - l₁) (linear t.low t.high t.shift) (omega (arith, n.shift, g.most)) (linear_below t.low t.high t.shift)
+      -- The terms have a.len + 1 - b.len coefficients: where h is above r.len, the higher is 0.
+      terms_short : Below (a.len + 1 - b.len) terms
+      terms_short = elim (dec_lt r.len h) [
+        | yes l ↦ rw (n.none (Degrees.below_at r.len (at r.remainder) g.below (h - 1) (omega arith))) (Degrees.below_up (suc t.shift) (a.len + 1 - b.len) (linear t.low.value 0 t.shift) (omega (arith, n.shift, g.most)) (linear_single t.low.value t.shift))
+        | no l ↦ Degrees.below_up (suc (suc t.shift)) (a.len + 1 - b.len) terms (omega (arith, n.shift, g.most)) (linear_below t.low.value t.high.value t.shift)
       ]
 
-      module _ {r' : List ℕ} (a : Added p t r r' r1) where
-        pub lower : Below (h - 2) (at r')
-        lower = rw a.sum n.away
-
-        pub going_on : {s' : List ℕ} {l' : ℕ} → Added p t s s' s1 → Trimmed r' (h - 2) l' → Going p l₀ l₁ r0 r' r1 s0 s' s1 l'
-        going_on b e = record {
+      module _ {x : List ℕ} (u : Added t r.remainder x b.remainder) where
+        pub going_on : {y : List ℕ} {l : ℕ} → Added t r.cofactor y b.cofactor → Trimmed x (h - 2) l → Going p a (record { remainder = x; cofactor = y; len = l }) b
+        going_on v e = record {
           quotient = add p g.quotient terms;
-          short = Degrees.below_add p (l₀ + 1 - l₁) g.quotient terms g.short terms_short;
-          sum = a.sum ∙ in_parts p (at r0) (at r1) (at r) g.quotient terms g.sum;
-          cofactor = b.sum ∙ in_parts p (at s0) (at s1) (at s) g.quotient terms g.cofactor;
-          held_r = a.held;
-          held_s = b.held;
+          short = Degrees.below_add p (a.len + 1 - b.len) g.quotient terms g.short terms_short;
+          sum = rw n.low at u.sum ∙ in_parts p (at a.remainder) (at b.remainder) (at r.remainder) g.quotient terms g.sum;
+          cofactor = rw n.low at v.sum ∙ in_parts p (at a.cofactor) (at b.cofactor) (at r.cofactor) g.quotient terms g.cofactor;
+          held = record { remainder = rw n.low at u.held; cofactor = rw n.low at v.held };
           below = e.length.below;
           most = omega (arith, e.most, g.most);
           length = λ _. e.length;
         }
-          where
-            terms : Series
-            terms = linear t.low t.high t.shift
 
-  pub going_end : {r s : List ℕ} {l : ℕ} → Going p l₀ l₁ r0 r r1 s0 s s1 l → l < l₁ → Divided p l₀ l₁ r0 r r1 s0 s s1 l
-  going_end {r} {s} {l} g h = record {
+  pub going_end : {r : Row} → Going p a r b → r.len < b.len → Divided p a r b
+  going_end {r} g h = record {
     quotient = g.quotient;
     short = g.short;
-    remainder = record { poly = record { bound = l₀ + 1 - l₁; below = g.short }; sum = g.sum; below = Degrees.below_up l (l₁ - 1) (at r) (omega arith) g.below };
+    remainder = record { poly = record { bound = a.len + 1 - b.len; below = g.short }; sum = g.sum; below = Degrees.below_up r.len (b.len - 1) (at r.remainder) (omega arith) g.below };
     cofactor = g.cofactor;
-    held_r = g.held_r;
-    held_s = g.held_s;
+    held = g.held;
     length = g.length h;
     less = h;
   }

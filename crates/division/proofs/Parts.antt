@@ -50,8 +50,11 @@ part_low {p} {a} j h i = elim (dec_lt i (length a - j)) [
   | no l ↦ rw (at_past (take (length a - j) (drop j a)) i (omega (arith, length-take (length a - j) (drop j a)))) (omega (arith, h.reduced 0))
 ]
 
-module _ {p : ℕ} {t : Terms} {len : ℕ} {a₀ b y : List ℕ} (r : AddableTerms p t len a₀ b)
-    (e : y ≡ plus p (take (length a₀ - t.shift) (drop t.shift a₀)) (times_linear t.low t.high (take len b))) where
+module _ {t : Terms} {len : ℕ} {a₀ b y : List ℕ} (r : AddableTerms t len a₀ b)
+    (e : y ≡ plus t.low.modulus (take (length a₀ - t.shift) (drop t.shift a₀)) (times_linear t.low.value t.high.value (take len b))) where
+  abbrev p : ℕ
+  p = t.low.modulus
+
   abbrev j : ℕ
   j = t.shift
 
@@ -90,33 +93,33 @@ module _ {p : ℕ} {t : Terms} {len : ℕ} {a₀ b y : List ℕ} (r : AddableTer
   before k h = get_or-append (take j a₀) (y ++ drop (length a₀ - j) (drop j a₀)) 0 k (omega (arith, long_front)) ∙ get_or-take j a₀ k 0 h
 
   -- In it the terms are added.
-  inside : (i : ℕ) → i + j < length a₀ → at whole (i + j) ≡ (at a₀ (i + j) + times_linear t.low t.high b i) % p
+  inside : (i : ℕ) → i + j < length a₀ → at whole (i + j) ≡ (at a₀ (i + j) + times_linear t.low.value t.high.value b i) % p
   unfolding plus
   inside i h =
       ap (at whole) {x = i + j} {y = length (take j a₀) + i} (omega (arith, long_front)) ∙ get_or-append-add (take j a₀) (y ++ drop (length a₀ - j) (drop j a₀)) i 0
       ∙ get_or-append y (drop (length a₀ - j) (drop j a₀)) 0 i (omega (arith, long_y)) ∙ ap (λ (l : List ℕ). at l i) e
       ∙ at_table (length (take (length a₀ - j) (drop j a₀))) _ i (omega (arith, long_part))
-      ∙ ap (λ (x : ℕ). (x + times_linear t.low t.high (take len b) i) % p) (get_or-take (length a₀ - j) (drop j a₀) i 0 (omega arith) ∙ get_or-drop j a₀ i 0 ∙ ap (at a₀) {x = j + i} {y = i + j} (omega arith))
-      ∙ ap (λ (x : ℕ). (at a₀ (i + j) + x) % p) (take-linear t.low t.high len b r.below i)
+      ∙ ap (λ (x : ℕ). (x + times_linear t.low.value t.high.value (take len b) i) % p) (get_or-take (length a₀ - j) (drop j a₀) i 0 (omega arith) ∙ get_or-drop j a₀ i 0 ∙ ap (at a₀) {x = j + i} {y = i + j} (omega arith))
+      ∙ ap (λ (x : ℕ). (at a₀ (i + j) + x) % p) (take-linear t.low.value t.high.value len b r.below i)
 
-  from : (k i : ℕ) → k ≡ i + j → at whole k ≡ (at a₀ k + times_linear t.low t.high b i) % p
+  from : (k i : ℕ) → k ≡ i + j → at whole k ≡ (at a₀ k + times_linear t.low.value t.high.value b i) % p
   from k i q = elim (dec_lt k (length a₀)) [
-    | yes h ↦ ap (at whole) q ∙ inside i (omega arith) ∙ ap (λ (x : ℕ). (at a₀ x + times_linear t.low t.high b i) % p) (sym q)
+    | yes h ↦ ap (at whole) q ∙ inside i (omega arith) ∙ ap (λ (x : ℕ). (at a₀ x + times_linear t.low.value t.high.value b i) % p) (sym q)
     | no h ↦ at_past whole k (omega (arith, long_whole, r.onto.long))
-        ∙ sym (ap (λ (x : ℕ). x % p) (omega (arith, at_past a₀ k (omega arith), linear_past t.low t.high len b r.below i (omega (arith, r.room, r.onto.long)))) ∙ zero-mod p)
+        ∙ sym (ap (λ (x : ℕ). x % p) (omega (arith, at_past a₀ k (omega arith), linear_past t.low.value t.high.value len b r.below i (omega (arith, r.room, r.onto.long)))) ∙ zero-mod p)
   ]
 
-  sums : at whole ≡ add p (at a₀) (mul p (linear t.low t.high t.shift) (at b))
+  sums : at whole ≡ add p (at a₀) (mul p (linear t.low.value t.high.value t.shift) (at b))
   unfolding add mul Reduced
   sums = fun_ext λ k. elim (dec_lt k j) [
-    | yes h ↦ before k h ∙ sym (ap (λ (x : ℕ). (at a₀ k + x % p) % p) (linear_low t.low t.high t.shift (at b) k h) ∙ add-mod-mod (at a₀ k) 0 p ∙ ap (λ (x : ℕ). x % p) {x = at a₀ k + 0} {y = at a₀ k} (omega arith) ∙ mod-eq_of_lt (r.onto.reduced k))
+    | yes h ↦ before k h ∙ sym (ap (λ (x : ℕ). (at a₀ k + x % p) % p) (linear_low t.low.value t.high.value t.shift (at b) k h) ∙ add-mod-mod (at a₀ k) 0 p ∙ ap (λ (x : ℕ). x % p) {x = at a₀ k + 0} {y = at a₀ k} (omega arith) ∙ mod-eq_of_lt (r.onto.reduced k))
     | no h ↦
         let q : k ≡ k - j + j = omega arith in
-        from k (k - j) q ∙ sym (add-mod-mod (at a₀ k) (times (linear t.low t.high t.shift) (at b) k) p ∙ ap (λ (x : ℕ). (at a₀ k + x) % p) (linear-at t.low t.high t.shift b k (k - j) q))
+        from k (k - j) q ∙ sym (add-mod-mod (at a₀ k) (times (linear t.low.value t.high.value t.shift) (at b) k) p ∙ ap (λ (x : ℕ). (at a₀ k + x) % p) (linear-at t.low.value t.high.value t.shift b k (k - j) q))
   ]
 
-  pub added : Added p t a₀ whole b
+  pub added : Added t a₀ whole b
   added = record {
-    held = record { long = long_whole; reduced = subst (Reduced p) (sym sums) (reduced_add p (at a₀) (mul p (linear t.low t.high t.shift) (at b)) pos) };
+    held = record { long = long_whole; reduced = subst (Reduced p) (sym sums) (reduced_add p (at a₀) (mul p (linear t.low.value t.high.value t.shift) (at b)) pos) };
     sum = sums;
   }

@@ -5,6 +5,7 @@ use Rattle.sums.specs.Table.{at}
 use Rattle.modular.specs.Inverse.{InverseOf}
 use Rattle.rows.specs.Row.{most_row_modulus}
 use Rattle.division.specs.Limits.{places}
+use Rattle.division.specs.declared.Row.{Row}
 use Rattle.series.specs.Series.{Series, Below, Reduced, Length}
 use Rattle.series.specs.Operations.{add, mul}
 use Rattle.series.specs.Remainder.{Remainder}
@@ -18,37 +19,39 @@ pub record Coefficients (p : ℕ) (a : List ℕ) : Type 0 where
   pub long : length a ≡ places
   pub reduced : Reduced p (at a)
 
--- A dividend r0 of at most l₀ coefficients and a divisor r1 of l₁, whose leading coefficient has the inverse z.
-pub record Divisible (p l₀ l₁ : ℕ) (r0 r1 : List ℕ) (z : ℕ) : Type 0 where
-  pub modulus : Modulus p
-  pub dividend : Coefficients p r0
-  pub divisor : Coefficients p r1
-  pub below₀ : Below l₀ (at r0)
-  pub below₁ : Below l₁ (at r1)
-  pub some : 0 < l₁
-  pub lead : InverseOf p (at r1 (l₁ - 1)) z
+-- A row of such arrays.
+pub record Held (p : ℕ) (a : Row) : Type 0 where
+  pub remainder : Coefficients p a.remainder
+  pub cofactor : Coefficients p a.cofactor
 
--- The cofactor row, done alongside: s1 has at most k coefficients, and s0 has room for the quotient times s1.
-pub record Cofactors (p l₀ l₁ k : ℕ) (s0 s1 : List ℕ) : Type 0 where
-  pub dividend : Coefficients p s0
-  pub divisor : Coefficients p s1
-  pub below : Below k (at s1)
-  pub room : l₀ + 1 - l₁ + k ≤ places
+-- A dividend a, of which the first l coefficients may be other than 0, and a divisor b, whose leading coefficient has the inverse z.
+pub record Divisible (p l : ℕ) (a b : Row) (z : ℕ) : Type 0 where
+  pub modulus : Modulus p
+  pub dividend : Held p a
+  pub divisor : Held p b
+  pub below₀ : Below l (at a.remainder)
+  pub below₁ : Below b.len (at b.remainder)
+  pub some : 0 < b.len
+  pub lead : InverseOf p (at b.remainder (b.len - 1)) z
+
+-- The cofactors, done alongside: that of b has at most k coefficients, and that of a has room for the quotient times it.
+pub record Cofactors (k : ℕ) (a b : Row) : Type 0 where
+  pub below : Below k (at b.cofactor)
+  pub room : a.len + 1 - b.len + k ≤ places
 
 -- Both.
-pub record Dividing (p l₀ l₁ k : ℕ) (r0 r1 s0 s1 : List ℕ) (z : ℕ) : Type 0 where
-  pub division : Divisible p l₀ l₁ r0 r1 z
-  pub order : l₁ ≤ l₀
-  pub room : l₀ < places
-  pub cofactors : Cofactors p l₀ l₁ k s0 s1
+pub record Dividing (p k : ℕ) (a b : Row) (z : ℕ) : Type 0 where
+  pub division : Divisible p a.len a b z
+  pub order : b.len ≤ a.len
+  pub room : a.len < places
+  pub cofactors : Cofactors k a b
 
--- r0 has become r0 + q r1, of l coefficients and of smaller degree than r1, and s0 has become s0 + q s1.
-pub record Divided (p l₀ l₁ : ℕ) (r0 r r1 s0 s s1 : List ℕ) (l : ℕ) : Type 0 where
+-- a has become r, which is a + q b, with a remainder of r.len coefficients, of smaller degree than that of b.
+pub record Divided (p : ℕ) (a r b : Row) : Type 0 where
   pub quotient : Series
-  pub short : Below (l₀ + 1 - l₁) quotient
-  pub remainder : Remainder p (l₁ - 1) (at r0) (at r1) quotient (at r)
-  pub cofactor : at s ≡ add p (at s0) (mul p quotient (at s1))
-  pub held_r : Coefficients p r
-  pub held_s : Coefficients p s
-  pub length : Length (at r) l
-  pub less : l < l₁
+  pub short : Below (a.len + 1 - b.len) quotient
+  pub remainder : Remainder p (b.len - 1) (at a.remainder) (at b.remainder) quotient (at r.remainder)
+  pub cofactor : at r.cofactor ≡ add p (at a.cofactor) (mul p quotient (at b.cofactor))
+  pub held : Held p r
+  pub length : Length (at r.remainder) r.len
+  pub less : r.len < b.len

@@ -1,5 +1,5 @@
 -- x^n - 1 has n + 1 coefficients, and an array one place more, since a quotient's terms are taken two at a time: `places`, which is PLACES in
--- crate euclid.
+-- src/lib.rt.
 use Rattle.std.specs.Prelude.{ℕ, ◌+◌}
 use Rattle.limits.specs.Limits.{most_entries}
 

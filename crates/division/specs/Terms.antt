@@ -1,11 +1,11 @@
 -- The parts of a division: what its small functions ask and answer.
 use Rattle.std.specs.Prelude.{ℕ, ◌+◌, ◌-◌, ◌*◌, ◌%◌, ◌≤◌, ◌<◌, ◌≡◌, List, length}
 use Rattle.sums.specs.Table.{at}
-use Rattle.rows.specs.Row.{Prepared}
 use Rattle.division.specs.Limits.{places}
 use Rattle.series.specs.Series.{Below, Length}
 use Rattle.division.specs.Division.{Modulus, Coefficients, Divisible}
 use Rattle.series.specs.Operations.{add, mul, linear}
+use Rattle.division.specs.declared.Row.{Row}
 use Rattle.division.specs.declared.Terms.{Terms}
 
 -- The first len places, past which all is 0.
@@ -33,31 +33,30 @@ pub record Place (a : List ℕ) (l : ℕ) : Type 0 where
   pub some : 0 < l
   pub inside : l ≤ length a
 
--- The dividend is longer than the divisor.
-pub record Longer (p l₀ l₁ : ℕ) (r0 r1 : List ℕ) (z : ℕ) : Type 0 where
-  pub division : Divisible p l₀ l₁ r0 r1 z
-  pub order : l₁ < l₀
-  pub most : l₀ ≤ places
+-- The dividend's first top coefficients are more than the divisor's.
+pub record Longer (p top : ℕ) (a b : Row) (z : ℕ) : Type 0 where
+  pub division : Divisible p top a b z
+  pub order : b.len < top
+  pub most : top ≤ places
 
--- The next two terms of the quotient: they take the two top places of r0 away. The higher is 0 where there is nothing to take away.
-pub record NextTerms (p l₀ l₁ : ℕ) (r0 r1 : List ℕ) (t : Terms) : Type 0 where
-  pub low : Prepared p t.low t.w
-  pub high : Prepared p t.high t.v
-  pub shift : t.shift ≡ l₀ - l₁ - 1
-  pub away : Below (l₀ - 2) (add p (at r0) (mul p (linear t.low t.high t.shift) (at r1)))
-  pub none : at r0 (l₀ - 1) ≡ 0 → t.high ≡ 0
+-- The next two terms of the quotient: they take the two top places of a away. The higher is 0 where there is nothing to take away.
+pub record NextTerms (p top : ℕ) (a b : Row) (t : Terms) : Type 0 where
+  pub low : t.low.modulus ≡ p
+  pub high : t.high.modulus ≡ p
+  pub shift : t.shift ≡ top - b.len - 1
+  pub away : Below (top - 2) (add p (at a.remainder) (mul p (linear t.low.value t.high.value t.shift) (at b.remainder)))
+  pub none : at a.remainder (top - 1) ≡ 0 → t.high.value ≡ 0
 
 -- Terms that can be added to a, times b.
-pub record AddableTerms (p : ℕ) (t : Terms) (len : ℕ) (a b : List ℕ) : Type 0 where
-  pub modulus : Modulus p
-  pub low : Prepared p t.low t.w
-  pub high : Prepared p t.high t.v
-  pub onto : Coefficients p a
-  pub from : Coefficients p b
+pub record AddableTerms (t : Terms) (len : ℕ) (a b : List ℕ) : Type 0 where
+  pub modulus : Modulus t.low.modulus
+  pub same : t.high.modulus ≡ t.low.modulus
+  pub onto : Coefficients t.low.modulus a
+  pub from : Coefficients t.low.modulus b
   pub below : Below len (at b)
   pub room : t.shift + len < places
 
 -- a is a₀ and the terms times b.
-pub record Added (p : ℕ) (t : Terms) (a₀ a b : List ℕ) : Type 0 where
-  pub held : Coefficients p a
-  pub sum : at a ≡ add p (at a₀) (mul p (linear t.low t.high t.shift) (at b))
+pub record Added (t : Terms) (a₀ a b : List ℕ) : Type 0 where
+  pub held : Coefficients t.low.modulus a
+  pub sum : at a ≡ add t.low.modulus (at a₀) (mul t.low.modulus (linear t.low.value t.high.value t.shift) (at b))

@@ -17,16 +17,15 @@ use Rattle.series.proofs.Inverses.{one_inverse, one_haunting, not_both}
 use Rattle.series.proofs.Existence.{inverse_same, haunted_same}
 use Rattle.series.proofs.Singular.{shared_no_inverse}
 use Rattle.series.proofs.Lengths.{below_list}
-use Rattle.euclid.specs.Answer.{Answers}
-use Rattle.euclid.specs.declared.Outcome.{Outcome}
-use Rattle.euclid.specs.declared.Outcome.TheVariants.{Inverted, Shared}
+use Rattle.std.specs.Prelude.{Ok, Err}
+use Rattle.euclid.specs.Answer.{Outcome, Answers}
 
 module _ (n m : ℕ) (two : 1 < m) (some : 0 < n) (f : Series) where
-  pub inverted_exactly : (out : List ℕ) (o : Outcome) → Answers n m f out o → (o ≡ Inverted) ↔ Invertible n m f
-  inverted_exactly out Inverted a = ((λ _. record { inverse = at out; is = a.means }), (λ _. refl))
-  inverted_exactly out (Shared d) a = (
-    (λ e. absurd (let z : ◌≡◌ {A = ℕ} 0 1 = cc in omega arith)),
-    (λ i. absurd (not_both n m two some f d (at out) i.inverse a.means i.is)),
+  pub inverted_exactly : (out : List ℕ) (o : Outcome) → Answers n m f out o → (o ≡ Ok tt) ↔ Invertible n m f
+  inverted_exactly out (Ok done) a = ((λ _. record { inverse = at out; is = a.means }), (λ _. refl))
+  inverted_exactly out (Err s) a = (
+    (λ e. absurd (cc)),
+    (λ i. absurd (not_both n m two some f s.degree (at out) i.inverse a.means i.is)),
   )
 
   -- Equal as polynomials, and of one length.
@@ -34,26 +33,26 @@ module _ (n m : ℕ) (two : 1 < m) (some : 0 < n) (f : Series) where
   same_list a b la lb e = ext_get_or 0 a b (la ∙ sym lb) (λ i _. ap (λ (s : Series). s i) e)
 
   pub one_answer : (out out' : List ℕ) (o o' : Outcome) → Answers n m f out o → Answers n m f out' o' → (o ≡ o') × (out ≡ out')
-  one_answer out out' Inverted Inverted a b = (
+  one_answer out out' (Ok done) (Ok done') a b = (
     refl,
     same_list out out' a.long b.long
         (one_inverse n m two some f (at out) (at out') a.reduced b.reduced (below_list out n (omega (arith, a.long))) (below_list out' n (omega (arith, b.long))) a.means b.means),
   )
-  one_answer out out' Inverted (Shared d) a b = absurd (not_both n m two some f d (at out') (at out) b.means a.means)
-  one_answer out out' (Shared d) Inverted a b = absurd (not_both n m two some f d (at out) (at out') a.means b.means)
-  one_answer out out' (Shared d) (Shared d') a b =
-      let same = one_haunting n m two some f d d' (at out) (at out') a.means b.means in
-      (ap Shared same.0, same_list out out' a.long b.long same.1)
+  one_answer out out' (Ok done) (Err s) a b = absurd (not_both n m two some f s.degree (at out') (at out) b.means a.means)
+  one_answer out out' (Err s) (Ok done) a b = absurd (not_both n m two some f s.degree (at out) (at out') a.means b.means)
+  one_answer out out' (Err s) (Err s') a b =
+      let same = one_haunting n m two some f s.degree s'.degree (at out) (at out') a.means b.means in
+      (ap (λ (d : ℕ). let o : Outcome = Err (record { degree = d }) in o) same.0, same_list out out' a.long b.long same.1)
 
 -- Modulo a prime.
-pub shared_exactly : (n p : ℕ) → Prime p → 0 < n → (f : Series) (out : List ℕ) (o : Outcome) → Answers n p f out o → ((d : ℕ) × (o ≡ Shared d)) ↔ Singular n p f
-shared_exactly n p prime some f out (Shared d) a = ((λ _. record { degree = d; high = a.means.high; shared = a.means.shared }), (λ _. (d, refl)))
-shared_exactly n p prime some f out Inverted a = (
-  (λ t. absurd (let e = t.1 in let z : ◌≡◌ {A = ℕ} 0 1 = cc in omega arith)),
+pub shared_exactly : (n p : ℕ) → Prime p → 0 < n → (f : Series) (out : List ℕ) (o : Outcome) → Answers n p f out o → ((d : ℕ) × (o ≡ Err (record { degree = d }))) ↔ Singular n p f
+shared_exactly n p prime some f out (Err s) a = ((λ _. record { degree = s.degree; high = a.means.high; shared = a.means.shared }), (λ _. (s.degree, refl)))
+shared_exactly n p prime some f out (Ok done) a = (
+  (λ t. absurd (let e = t.1 in cc)),
   (λ s. absurd (shared_no_inverse n p prime some f s.degree s.shared s.high (record { inverse = at out; is = a.means }))),
 )
 
 -- What is answered for f is answered for g, where both are the same modulo m.
 pub answers_same : {n m : ℕ} {f g : Series} {out : List ℕ} → red m f ≡ red m g → (o : Outcome) → Answers n m f out o → Answers n m g out o
-answers_same {n} {m} {f} {g} {out} e Inverted a = record { long = a.long; reduced = a.reduced; means = inverse_same n m f g e (at out) a.means }
-answers_same {n} {m} {f} {g} {out} e (Shared d) a = record { long = a.long; reduced = a.reduced; means = haunted_same n m f g e d (at out) a.means }
+answers_same {n} {m} {f} {g} {out} e (Ok done) a = record { long = a.long; reduced = a.reduced; means = inverse_same n m f g e (at out) a.means }
+answers_same {n} {m} {f} {g} {out} e (Err s) a = record { long = a.long; reduced = a.reduced; means = haunted_same n m f g e s.degree (at out) a.means }

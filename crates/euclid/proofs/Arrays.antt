@@ -1,11 +1,11 @@
 -- Arrays and lists as polynomials: what the small functions of the extended Euclid leave in them. Assumes nothing.
-use Prim.Native.Nat.{ℕ, zero, suc, ◌+◌, ◌-◌, ◌%◌, ◌≤◌}
+use Prim.Native.Nat.{ℕ, zero, suc, ◌+◌, ◌-◌, ◌%◌, ◌≤◌, ◌<◌}
 use mathlib.Core.Path.{◌≡◌, refl, sym, ◌∙◌, ap, subst, fun_ext}
-use mathlib.Core.List.{List, ◌++◌, append-nil}
+use mathlib.Core.List.{List, ◌++◌}
 use native.Mathlib.Decide.{dec_lt, ℕ_discrete}
 use native.Mathlib.Omega.{arith}
 use lib.ListN.{length, drop, set, replicate, length-replicate, length-set, length-append, length-drop, get_or-append}
-use lib.Seq.{drop-length, get_or-set_same, get_or-set_other, get_or-append-add, get_or-drop}
+use lib.Seq.{get_or-set_same, get_or-set_other, get_or-append-add, get_or-drop}
 use Rattle.sums.specs.Table.{at}
 use Rattle.sums.proofs.Tables.{at_past, length-table, table_eq}
 use Rattle.ring.specs.Reduce.{reduce}
@@ -20,12 +20,8 @@ use Rattle.series.proofs.Cycle.{cycle_first, cycle_last, cycle_between}
 use Rattle.series.proofs.Ends.{scaled_at}
 use Rattle.division.specs.Limits.{places}
 use Rattle.division.specs.Division.{Coefficients}
-use Rattle.euclid.specs.Answer.{Sizes}
+use Rattle.euclid.specs.Answer.{Entries}
 use Rattle.euclid.specs.Descent.{HoldsPolynomial, Over}
-
--- A list copied over one of its length.
-pub copied_whole : (src dst : List ℕ) → length dst ≡ length src → src ++ drop (length src) dst ≡ src
-copied_whole src dst e = ap (λ (k : ℕ). src ++ drop k dst) (sym e) ∙ ap (λ (l : List ℕ). src ++ l) (drop-length dst) ∙ append-nil src
 
 length-terms : (n m : ℕ) (t : ℕ → ℕ) → length (terms n m t) ≡ n
 unfolding terms
@@ -38,11 +34,9 @@ scaled_list m z src out e =
     ap (λ (l : List ℕ). at l) (e ∙ table_eq (length src) _ _ (λ k h. sym (scaled_at m z (at src) k)))
     ∙ table_series (length src) (mul m (term z 0) (at src)) (below_term m z 0 (length src) (length src) (at src) (below_list src (length src) (omega arith)) (omega arith))
 
--- The output is src, and then src times z.
-pub over_is : {m y z : ℕ} {src mid out : List ℕ} (out₀ : List ℕ) → InverseOf m y z → length out₀ ≡ length src → mid ≡ src ++ drop (length src) out₀ → out ≡ terms (length mid) m (times z mid) → Over m y src out
-over_is {m} {y} {z} {src} {mid} {out} out₀ i room copy scale =
-    let is : out ≡ terms (length src) m (times z src) = scale ∙ ap (λ (l : List ℕ). terms (length l) m (times z l)) (copy ∙ copied_whole src out₀ room) in
-    record { z = z; inverse = i; long = ap length is ∙ length-terms (length src) m (times z src); is = scaled_list m z src out is }
+-- The output is src times z.
+pub over_is : {m y z : ℕ} {src out : List ℕ} → InverseOf m y z → out ≡ terms (length src) m (times z src) → Over m y src out
+over_is {m} {y} {z} {src} {out} i is = record { z = z; inverse = i; long = ap length is ∙ length-terms (length src) m (times z src); is = scaled_list m z src out is }
 
 -- ---- arrays
 
@@ -63,14 +57,14 @@ holds_constant n c e = record {
   ];
 }
 
-pub holds_cycle : {n m : ℕ} {a : List ℕ} → Sizes n m → HoldsPolynomial a (term (m - 1) 0) → HoldsPolynomial (set a n 1) (xn_minus_one n m)
-holds_cycle {n} {m} {a} z h = record {
+pub holds_cycle : {n m : ℕ} {a : List ℕ} → 1 < m → Entries n → HoldsPolynomial a (term (m - 1) 0) → HoldsPolynomial (set a n 1) (xn_minus_one n m)
+holds_cycle {n} {m} {a} two z h = record {
   long = length-set a n 1 ∙ h.long;
   is = fun_ext λ k. elim (ℕ_discrete k n) [
-    | yes q ↦ ap (at (set a n 1)) q ∙ get_or-set_same a n 1 0 (omega (arith, h.long, z.most)) ∙ sym (ap (xn_minus_one n m) q ∙ cycle_last n m z.two z.some)
+    | yes q ↦ ap (at (set a n 1)) q ∙ get_or-set_same a n 1 0 (omega (arith, h.long, z.most)) ∙ sym (ap (xn_minus_one n m) q ∙ cycle_last n m two z.some)
     | no q ↦ get_or-set_other a n k 1 0 q ∙ ap (λ (s : Series). s k) h.is ∙ elim (ℕ_discrete k 0) [
-      | yes o ↦ ap (term (m - 1) 0) o ∙ term-at (m - 1) 0 ∙ sym (ap (xn_minus_one n m) o ∙ cycle_first n m z.two z.some)
-      | no o ↦ term_other (m - 1) 0 k o ∙ sym (cycle_between n m z.two z.some k o q)
+      | yes o ↦ ap (term (m - 1) 0) o ∙ term-at (m - 1) 0 ∙ sym (ap (xn_minus_one n m) o ∙ cycle_first n m two z.some)
+      | no o ↦ term_other (m - 1) 0 k o ∙ sym (cycle_between n m two z.some k o q)
     ]
   ];
 }

@@ -2,13 +2,14 @@
 -- monic is the ghost. Both fit n places, and both divisors have an inverse, whatever m is. Assumes nothing.
 use Prim.Native.Nat.{ℕ, ◌+◌, ◌*◌, ◌-◌, ◌%◌, ◌<◌}
 use mathlib.Core.Path.{◌≡◌, sym, ◌∙◌, ap, subst, fun_ext}
-use mathlib.Core.Bool.{Bool}
 use mathlib.Core.List.{List}
 use native.Mathlib.Omega.{arith}
 use lib.ListN.{length, take}
 use lib.Seq.{length-take-le}
 use Rattle.sums.specs.Table.{at}
-use Rattle.series.specs.Series.{Below, Reduced}
+use Rattle.std.specs.Prelude.{Ok, Err}
+use Rattle.series.specs.Series.{Series, Below, Reduced}
+use Rattle.series.specs.Rows.{State}
 use Rattle.series.specs.Operations.{mul, term}
 use Rattle.series.specs.Inverse.{Inverse}
 use Rattle.series.specs.Ghost.{Ghost}
@@ -17,8 +18,9 @@ use Rattle.series.proofs.Units.{inverse_unit, unit_inverse}
 use Rattle.series.proofs.Ends
 use Rattle.division.specs.Limits.{places}
 use Rattle.division.specs.Division.{Coefficients}
-use Rattle.euclid.specs.Descent.{Last, Finished, HasInverse, Dividable, Over}
-use Rattle.euclid.specs.declared.Outcome.TheVariants.{Inverted, Shared}
+use Rattle.division.specs.declared.Row.{Row}
+use Rattle.euclid.specs.Descent.{Standing, Last, Finished, HasInverse, Dividable, Over}
+use Rattle.euclid.specs.declared.modulo.Modulus.{Modulus}
 use Rattle.division.proofs.Digits.{held_low}
 use Rattle.division.proofs.Parts.{take_front, front_low}
 
@@ -26,55 +28,57 @@ use Rattle.division.proofs.Parts.{take_front, front_low}
 pub long_front : {m n : ℕ} {a : List ℕ} → n < places → Coefficients m a → length (take n a) ≡ n
 long_front {m} {n} {a} h d = length-take-le n a (omega (arith, d.long))
 
-module _ {n m l : ℕ} {prime : Bool} {r s t : List ℕ} (w : Last n m prime l r s t) where
-  two : 1 < m
-  two = w.sizes.two
-
+module _ {n : ℕ} {m : Modulus} {a b : Row} (w : Last n m a b) where
   pub room : n < places
-  room = omega (arith, w.sizes.most)
+  room = omega (arith, w.entries.most)
 
-  has_inverse : (a : List ℕ) (k : ℕ) → Coefficients m a → 0 < at a k → (z : ℕ) × (z * at a k % m ≡ 1 % m) → HasInverse m (at a k) prime
-  has_inverse a k h some u = record {
-    lead = record { two = two; some = some; low = held_low h k; known = w.known };
-    inverse = u.0 % m;
-    is = unit_inverse two u.0 u.1;
-  }
+  abbrev Ending : Series → Type 0
+  Ending f = State n m.value f a.len 0 (at a.remainder) (at b.remainder) (at a.cofactor) (at b.cofactor)
 
-  pub last_some : l ≡ 1 → HasInverse m (at r 0) prime
-  last_some e = subst (λ (x : ℕ). HasInverse m (at r x) prime) (omega arith) (has_inverse r (l - 1) w.held_r (w.state.length₀.top (omega arith)) (Ends.last_unit two w.sizes.some w.state))
+  ending : {f : Series} → Standing n m.value f a b → Ending f
+  ending {f} h = subst (λ (l : ℕ). State n m.value f a.len l (at a.remainder) (at b.remainder) (at a.cofactor) (at b.cofactor)) w.none h.state
 
-  pub ghost_some : HasInverse m (at t (n + 1 - l)) prime
-  ghost_some = subst (λ (x : ℕ). HasInverse m (at t x) prime) (omega (arith, w.state.falling))
-      (has_inverse t (n - (l - 1)) w.held_t (Ends.top_some two w.sizes.some w.state) (Ends.top_unit two w.sizes.some w.state))
+  state : Ending w.f
+  state = ending w.standing
 
-  pub dividable : {y : ℕ} {a out : List ℕ} → Coefficients m a → HasInverse m y prime → length out ≡ n → Dividable m y prime (take n a) out
-  dividable {y} {a} {out} h z e = record { number = z; word = w.sizes.word; low = front_low n h; room = e ∙ sym (long_front room h) }
+  has_inverse : (x : List ℕ) (k : ℕ) → Coefficients m.value x → 0 < at x k → (z : ℕ) × (z * at x k % m.value ≡ 1 % m.value) → HasInverse m.value (at x k)
+  has_inverse x k h some u = record { some = some; low = held_low h k; inverse = u.0 % m.value; is = unit_inverse m.two u.0 u.1 }
+
+  pub last_some : a.len ≡ 1 → HasInverse m.value (at a.remainder 0)
+  last_some e = subst (λ (x : ℕ). HasInverse m.value (at a.remainder x)) (omega arith) (has_inverse a.remainder (a.len - 1) w.standing.first.remainder (state.length₀.top (omega arith)) (Ends.last_unit m.two w.entries.some state))
+
+  pub ghost_some : HasInverse m.value (at b.cofactor (n + 1 - a.len))
+  ghost_some = subst (λ (x : ℕ). HasInverse m.value (at b.cofactor x)) (omega (arith, state.falling))
+      (has_inverse b.cofactor (n - (a.len - 1)) w.standing.second.cofactor (Ends.top_some m.two w.entries.some state) (Ends.top_unit m.two w.entries.some state))
+
+  pub dividable : {y : ℕ} {x out : List ℕ} → Coefficients m.value x → HasInverse m.value y → length out ≡ n → Dividable m y (take n x) out
+  dividable h z e = record { number = z; low = front_low n h; room = e ∙ sym (long_front room h) }
 
   -- What is over y, of an array with n coefficients.
-  scaled : {y : ℕ} {out : List ℕ} (a : List ℕ) → Below n (at a) → (o : Over m y (take n a) out) → at out ≡ mul m (term o.z 0) (at a)
-  scaled a b o = o.is ∙ ap (mul m (term o.z 0)) (fun_ext λ i. take_front n a b i)
+  scaled : {y : ℕ} {out : List ℕ} (x : List ℕ) → Below n (at x) → (o : Over m.value y (take n x) out) → at out ≡ mul m.value (term o.z 0) (at x)
+  scaled x l o = o.is ∙ ap (mul m.value (term o.z 0)) (fun_ext λ i. take_front n x l i)
 
-  pub finished_inverse : {out : List ℕ} → l ≡ 1 → Over m (at r 0) (take n s) out → Finished n m l r s t out Inverted
+  pub finished_inverse : {out : List ℕ} → a.len ≡ 1 → Over m.value (at a.remainder 0) (take n a.cofactor) out → Finished n m.value a b out (Ok tt)
   finished_inverse e o = record {
-    answers = λ f r₁ st. record {
-      long = o.long ∙ long_front room w.held_s;
-      reduced = subst (Reduced m) (sym o.is) (reduced_mul m (term o.z 0) (at (take n s)) (omega arith));
-      means = subst (Inverse n m f) (sym (scaled s (below_up (n + 1 - l) n (at s) (omega arith) st.short₀) o))
-          (Ends.inverse two w.sizes.some st o.z e (inverse_unit two o.inverse));
+    answers = λ f h. let st = ending h in record {
+      long = o.long ∙ long_front room w.standing.first.cofactor;
+      reduced = subst (Reduced m.value) (sym o.is) (reduced_mul m.value (term o.z 0) (at (take n a.cofactor)) (omega (arith, m.two)));
+      means = subst (Inverse n m.value f) (sym (scaled a.cofactor (below_up (n + 1 - a.len) n (at a.cofactor) (omega arith) st.short₀) o))
+          (Ends.inverse m.two w.entries.some st o.z e (inverse_unit m.two o.inverse));
     };
   }
 
-  pub finished_ghost : {out : List ℕ} → (l ≡ 1 → ⊥) → Over m (at t (n + 1 - l)) (take n t) out → Finished n m l r s t out (Shared (l - 1))
+  pub finished_ghost : {out : List ℕ} → (a.len ≡ 1 → ⊥) → Over m.value (at b.cofactor (n + 1 - a.len)) (take n b.cofactor) out → Finished n m.value a b out (Err (record { degree = a.len - 1 }))
   finished_ghost e o = record {
-    answers = λ f r₁ st. record {
-      long = o.long ∙ long_front room w.held_t;
-      reduced = subst (Reduced m) (sym o.is) (reduced_mul m (term o.z 0) (at (take n t)) (omega arith));
+    answers = λ f h. let st = ending h in record {
+      long = o.long ∙ long_front room w.standing.second.cofactor;
+      reduced = subst (Reduced m.value) (sym o.is) (reduced_mul m.value (term o.z 0) (at (take n b.cofactor)) (omega (arith, m.two)));
       means = record {
         high = omega (arith, st.falling);
         most = omega (arith, st.most);
-        shared = Ends.shared two w.sizes.some st;
-        ghost = subst (Ghost n m f (n - (l - 1))) (sym (scaled t (below_up (n + 2 - l) n (at t) (omega (arith, st.falling)) st.short₁) o))
-            (Ends.ghost two w.sizes.some st o.z (subst (λ (x : ℕ). o.z * at t x % m ≡ 1 % m) (omega (arith, st.falling)) (inverse_unit two o.inverse)));
+        shared = Ends.shared m.two w.entries.some st;
+        ghost = subst (Ghost n m.value f (n - (a.len - 1))) (sym (scaled b.cofactor (below_up (n + 2 - a.len) n (at b.cofactor) (omega (arith, st.falling)) st.short₁) o))
+            (Ends.ghost m.two w.entries.some st o.z (subst (λ (x : ℕ). o.z * at b.cofactor x % m.value ≡ 1 % m.value) (omega (arith, st.falling)) (inverse_unit m.two o.inverse)));
       };
     };
   }

@@ -1,2 +1,4 @@
+pub mod Sent
+pub mod Told
 pub mod Unmixings
 pub mod Inner

@@ -3,130 +3,68 @@
 
 ghost use Rattle.std.specs.Prelude.{◌≡◌, ◌↔◌, true, length};
 ghost use Rattle.answer.specs.First.{first};
-ghost use Rattle.pattern.specs.Sent.{sent};
-ghost use Rattle.pattern.specs.Factored.{factored};
+ghost use Rattle.factors.specs.Factored.{factored_of};
 ghost use Rattle.pattern.specs.Same.{Same};
 ghost use Rattle.pattern.specs.Granted.{BothGranted};
-ghost use Rattle.pattern.specs.Promises.{unmix_order, same_order, Unmixes, SameFeeding};
+ghost use Rattle.pattern.specs.Promises.{unmix_order, Unmixes, SameFeeding};
+ghost use Rattle.feeding.specs.Sent.{sent_of};
+ghost use Rattle.feeding.specs.Told.{answer_in, yes};
 ghost use Rattle.feeding.specs.Unmixings.{CanCount, Counted, CanUnmix, Unmixing};
-ghost use Rattle.feeding.specs.Inner.{CanCountIn, CanCompareIn, untold, Judged};
+ghost use Rattle.feeding.specs.Inner.{Judged};
 
-use answer::{Answer, Check};
-use checks::{check_four_rings, check_rings, check_room, first_high};
+use answer::{Answer, Failure, Refusal};
+use checks::{check_room, first_high};
 use convolve::convolve;
-use factors::check_factors;
-use invert::{Inversion, inversion_answer, invert_legal};
+use factors::Factored;
+use invert::{Ghost, invert_legal};
 use limits::MOST_ENTRIES;
-use slices::same;
 
-// The answer of same feeding, and beside it whether the two feedings are the same.
+// What a logger sends: a pattern, and its readings.
 #[derive(Clone, Copy)]
-pub struct Verdict {
-    pub answer: Answer,
-    pub same: bool,
+pub struct Sent<'a> {
+    pub pattern: &'a [u32],
+    pub readings: &'a [u32],
 }
 
-// Unmix where nothing is left to check: `inverse` becomes the inverse of the pattern f, or its ghost, and out the counts behind the readings y, or it stays as
-// it came.
+// Unmix where nothing is left to check: `inverse` becomes the inverse of the pattern, or its ghost, and out the counts behind the readings, or it stays as it
+// came.
 pub fn unmix_legal(
-    f: &[u32],
-    y: &[u32],
-    m: u32,
-    primes: &[u32],
-    exponents: &[u8],
+    s: Sent<'_>,
+    m: Factored<'_>,
     inverse: &mut [u32],
     out: &mut [u32],
-) -> Inversion
-    requires { CanUnmix (sent f.now y.now) (factored m primes.now exponents.now) inverse.old out.old }
-    ensures { Unmixing (sent f.now y.now) m out.old inverse.new out.new result }
+) -> Result<(), Ghost>
+    requires { CanUnmix (sent_of s) (factored_of m) inverse.old out.old }
+    ensures { Unmixing (sent_of s.entry) m.entry.modulus out.old inverse.new out.new result }
 {
-    match invert_legal(f, m, primes, exponents, inverse) {
-        Inversion::Inverted => {
-            convolve(inverse, y, m, out);
-            Inversion::Inverted
-        }
-        Inversion::Ghost(p) => Inversion::Ghost(p),
-    }
+    invert_legal(s.pattern, m, inverse)?;
+    convolve(inverse, s.readings, m.modulus, out);
+    Ok(())
 }
 
-// The counts, with n entries or more lent for the inverse.
-fn count_in(
-    f: &[u32],
-    y: &[u32],
-    m: u32,
-    primes: &[u32],
-    exponents: &[u8],
-    scratch: &mut [u32],
-    out: &mut [u32],
-) -> Inversion
-    requires { CanCountIn (sent f.now y.now) (factored m primes.now exponents.now) scratch.old out.old }
-    ensures { Counted (sent f.now y.now) m out.old out.new result }
+// out becomes the counts behind the readings, or stays as it came.
+fn count(s: Sent<'_>, m: Factored<'_>, out: &mut [u32]) -> Result<(), Ghost>
+    requires { CanCount (sent_of s) (factored_of m) out.old }
+    ensures { Counted (sent_of s.entry) m.entry.modulus out.old out.new result }
 {
-    let n = f.len();
-    unmix_legal(f, y, m, primes, exponents, &mut scratch[..n], out)
+    let n = s.pattern.len();
+    let inverse = &mut [0u32; MOST_ENTRIES][..n];
+    unmix_legal(s, m, inverse, out)
 }
 
-// out becomes the counts behind the readings y, or stays as it came.
-fn count(
-    f: &[u32],
-    y: &[u32],
-    m: u32,
-    primes: &[u32],
-    exponents: &[u8],
-    out: &mut [u32],
-) -> Inversion
-    requires { CanCount (sent f.now y.now) (factored m primes.now exponents.now) out.old }
-    ensures { Counted (sent f.now y.now) m out.old out.new result }
+#[tactic(auto, using(checks::proofs::Orders::then_rest))]
+fn check_unmix(s: Sent<'_>, m: Factored<'_>, room: usize) -> Result<(), Refusal>
+    ensures { result ≡ first (unmix_order (sent_of s.entry) (factored_of m.entry) room) }
 {
-    let mut scratch = [0u32; MOST_ENTRIES];
-    count_in(f, y, m, primes, exponents, &mut scratch, out)
+    m.check_rings(s.pattern, &[s.readings])?;
+    check_room(s.pattern.len(), room)
 }
 
-fn check_unmix(f: &[u32], y: &[u32], m: u32, primes: &[u32], exponents: &[u8], room: usize) -> Check
-    ensures { result ≡ first (unmix_order (sent f.now y.now) (factored m primes.now exponents.now) room) }
+pub fn unmix(s: Sent<'_>, m: Factored<'_>, out: &mut [u32]) -> Answer
+    ensures { Unmixes (sent_of s.entry) (factored_of m.entry) out.old result out.new }
 {
-    check_rings(f, y, m, check_factors(primes, exponents, m)).or(check_room(f.len(), room))
-}
-
-pub fn unmix(
-    f: &[u32],
-    y: &[u32],
-    m: u32,
-    primes: &[u32],
-    exponents: &[u8],
-    out: &mut [u32],
-) -> Answer
-    ensures { Unmixes (sent f.now y.now) (factored m primes.now exponents.now) out.old result out.new }
-{
-    let check = check_unmix(f, y, m, primes, exponents, out.len());
-    match check {
-        Check::Passed => inversion_answer(count(f, y, m, primes, exponents, out), 1),
-        Check::Refused(refusal) => Answer::Refused(refusal),
-    }
-}
-
-fn check_same(
-    f1: &[u32],
-    y1: &[u32],
-    f2: &[u32],
-    y2: &[u32],
-    m: u32,
-    primes: &[u32],
-    exponents: &[u8],
-) -> Check
-    ensures { result ≡ first (same_order (sent f1.now y1.now) (sent f2.now y2.now) (factored m primes.now exponents.now)) }
-{
-    check_four_rings(f1, y1, f2, y2, m, check_factors(primes, exponents, m))
-}
-
-// An answer that leaves open whether the feedings are the same.
-fn untold(answer: Answer) -> Verdict
-    ensures { result ≡ untold answer }
-{
-    Verdict {
-        answer,
-        same: false,
-    }
+    check_unmix(s, m, out.len())?;
+    count(s, m, out).map_err(|why| why.of_ring(1))
 }
 
 // Whether two rings of counts are the same feeding: they agree, and at least one entry isn't zero.
@@ -134,81 +72,28 @@ fn same_counts(a: &[u32], b: &[u32]) -> bool
     requires { length b.now ≡ length a.now }
     ensures { (result ≡ true) ↔ Same (length a.now) a.now b.now }
 {
-    let n = a.len();
-    first_high(a, 1) < n && same(a, b)
+    first_high(a, 1).is_some() && a == b
 }
 
-// Both sides are unmixed and the counts compared, with n entries or more lent for each.
-fn compare_in(
-    f1: &[u32],
-    y1: &[u32],
-    f2: &[u32],
-    y2: &[u32],
-    m: u32,
-    primes: &[u32],
-    exponents: &[u8],
-    first: &mut [u32],
-    second: &mut [u32],
-) -> Verdict
-    requires { CanCompareIn (sent f1.now y1.now) (sent f2.now y2.now) (factored m primes.now exponents.now) first.old second.old }
-    ensures { Judged m (sent f1.now y1.now) (sent f2.now y2.now) result }
+// Both sides are unmixed and the counts compared.
+fn compare(first: Sent<'_>, second: Sent<'_>, m: Factored<'_>) -> Result<bool, Failure>
+    requires { BothGranted (sent_of first) (sent_of second) (factored_of m) }
+    ensures { Judged m.entry.modulus (sent_of first.entry) (sent_of second.entry) result }
 {
-    let n = f1.len();
-    let c1 = &mut first[..n];
-    let c2 = &mut second[..n];
-    match count(f1, y1, m, primes, exponents, c1) {
-        Inversion::Ghost(p) => untold(inversion_answer(Inversion::Ghost(p), 1)),
-        Inversion::Inverted => match count(f2, y2, m, primes, exponents, c2) {
-            Inversion::Ghost(p) => untold(inversion_answer(Inversion::Ghost(p), 3)),
-            Inversion::Inverted => Verdict {
-                answer: Answer::Done,
-                same: same_counts(c1, c2),
-            },
-        },
-    }
+    let n = first.pattern.len();
+    let c1 = &mut [0u32; MOST_ENTRIES][..n];
+    let c2 = &mut [0u32; MOST_ENTRIES][..n];
+    count(first, m, c1).map_err(|why| why.of_ring(1))?;
+    count(second, m, c2).map_err(|why| why.of_ring(3))?;
+    Ok(same_counts(c1, c2))
 }
 
-fn compare(
-    f1: &[u32],
-    y1: &[u32],
-    f2: &[u32],
-    y2: &[u32],
-    m: u32,
-    primes: &[u32],
-    exponents: &[u8],
-) -> Verdict
-    requires { BothGranted (sent f1.now y1.now) (sent f2.now y2.now) (factored m primes.now exponents.now) }
-    ensures { Judged m (sent f1.now y1.now) (sent f2.now y2.now) result }
+pub fn same_feeding(first: Sent<'_>, second: Sent<'_>, m: Factored<'_>) -> Result<bool, Failure>
+    ensures { SameFeeding (sent_of first.entry) (sent_of second.entry) (factored_of m.entry) (answer_in result) (yes result) }
 {
-    let mut first = [0u32; MOST_ENTRIES];
-    let mut second = [0u32; MOST_ENTRIES];
-    compare_in(
-        f1,
-        y1,
-        f2,
-        y2,
-        m,
-        primes,
-        exponents,
-        &mut first,
-        &mut second,
-    )
-}
-
-pub fn same_feeding(
-    f1: &[u32],
-    y1: &[u32],
-    f2: &[u32],
-    y2: &[u32],
-    m: u32,
-    primes: &[u32],
-    exponents: &[u8],
-) -> Verdict
-    ensures { SameFeeding (sent f1.now y1.now) (sent f2.now y2.now) (factored m primes.now exponents.now) result.answer result.same }
-{
-    let check = check_same(f1, y1, f2, y2, m, primes, exponents);
-    match check {
-        Check::Passed => compare(f1, y1, f2, y2, m, primes, exponents),
-        Check::Refused(refusal) => untold(Answer::Refused(refusal)),
-    }
+    m.check_rings(
+        first.pattern,
+        &[first.readings, second.pattern, second.readings],
+    )?;
+    compare(first, second, m)
 }

@@ -1,6 +1,7 @@
 -- "no valid sheet is longer than 8,247, and three more show why a longer one is refused" (document 01): bytes past the first 8,250 never change what a
 -- sheet means. After fields that pass with tags up to t the next offset is at most `reach t`, so at each field the header lies in the first 8,250 bytes,
 -- and so does a value of right length; both walks make the same steps. Both numbers are `limits`' own, most-sheet-bytes and deciding-bytes. Assumes nothing.
+use Rattle.std.specs.Prelude.{Ok, Err}
 use Prim.Native.Nat.{ℕ, zero, suc, ◌+◌, ◌-◌, ◌≤◌, ◌<◌}
 use mathlib.Core.Path.{◌≡◌, refl, sym, ap, ◌∙◌}
 use mathlib.Core.List.{List, [], ◌∷◌}
@@ -12,15 +13,12 @@ use lib.Seq.{get_or-take, length-take-le, take_all}
 use Rattle.limits.specs.Limits.{header_bytes, most_sheet_bytes, deciding_bytes}
 use Rattle.sums.specs.Table.{at}
 use Rattle.answer.specs.First.{first}
-use Rattle.answer.specs.declared.Check.{Check}
-use Rattle.answer.specs.declared.Check.TheVariants.{Passed, Refused}
+use Rattle.answer.specs.Check.{Check}
 use Rattle.octets.specs.Numbers.{big_endian}
 use Rattle.fields.specs.Fields.{Field, tag_at, length_at, field_at, next_at, last_tag, part_of, version_of}
-use Rattle.fields.specs.Tags.{tags, fit}
+use Rattle.fields.specs.Tags.{Fit, Unknown, Wrong, Right, tags, fit}
 use Rattle.fields.specs.Checks.{value_order, field_order}
 use Rattle.fields.specs.Walk.{accepted, unless, walk, reading}
-use Rattle.fields.specs.declared.Fit.{Fit}
-use Rattle.fields.specs.declared.Fit.TheVariants.{Unknown, Wrong, Right}
 use Rattle.fields.proofs.Passes.{field_passes}
 use Rattle.fields.proofs.Walks.{walk_on}
 use Rattle.fields.proofs.Sound.{unless_accepted}
@@ -91,10 +89,10 @@ module _ (s : List ℕ) (long : deciding_bytes ≤ length s) where
     same_told f h = elim (ℕ_discrete f.tag 1) [ yes e ↦ rw (eq-eqb f.tag 1 e) (same_at deciding_bytes s f.from h) | no e ↦ rw (ne_eqb f.tag 1 e) told_same ]
 
     same_step : (k k' : ℕ) (c : Check) → first (field_order s come o) ≡ c
-        → (first (field_order s come o) ≡ Passed → walk k a (field_at s o ∷ come) (next_at s o) ≡ walk k' s (field_at s o ∷ come) (next_at s o))
+        → (first (field_order s come o) ≡ Ok tt → walk k a (field_at s o ∷ come) (next_at s o) ≡ walk k' s (field_at s o ∷ come) (next_at s o))
         → unless (first (field_order a come o)) (walk k a (field_at a o ∷ come) (next_at a o)) ≡ unless (first (field_order s come o)) (walk k' s (field_at s o ∷ come) (next_at s o))
-    same_step k k' (Refused r) e on = rw (same_checks, e)
-    same_step k k' Passed e on = rw (same_checks, e) (ap (λ (g : Field). walk k a (g ∷ come) (o + header_bytes + g.len)) same_field ∙ on e)
+    same_step k k' (Err r) e on = rw (same_checks, e)
+    same_step k k' (Ok _) e on = rw (same_checks, e) (ap (λ (g : Field). walk k a (g ∷ come) (o + header_bytes + g.len)) same_field ∙ on e)
 
   same_walk : (k k' : ℕ) (come : List Field) (o : ℕ) → deciding_bytes ≤ o + k → length s ≤ o + k' → Bounded come o → version_of a come ≡ version_of s come → walk k a come o ≡ walk k' s come o
   same_walk zero k' come o h h' b t = absurd (omega (arith, near come o b t))

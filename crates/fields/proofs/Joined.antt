@@ -1,5 +1,6 @@
 -- Well-formed fields in order, joined, are accepted with exactly their parts. Each field passes its checks where it stands; by recursion on the fields.
 -- Assumes nothing.
+use Rattle.std.specs.Prelude.{is_some}
 use Prim.Native.Nat.{ℕ, zero, suc, ◌+◌, ◌≤◌}
 use mathlib.Core.Path.{◌≡◌, refl, sym, ap, ◌∙◌}
 use mathlib.Core.Bool.{Bool, true, false}
@@ -12,7 +13,7 @@ use lib.ListN.{length, take, drop, length-append}
 use lib.Seq.{get_or-append-add, drop-append-add, take-append_seam}
 use Rattle.limits.specs.Limits.{header_bytes}
 use Rattle.sums.specs.Table.{at}
-use Rattle.fields.specs.Fields.{Field, tag_at, length_at, field_at, part_of, version_of}
+use Rattle.fields.specs.Fields.{Field, tag_at, length_at, field_at, part_of, or_empty, version_of}
 use Rattle.fields.specs.Tags.{known_version}
 use Rattle.fields.specs.Walk.{accepted, walk, reading}
 use Rattle.fields.specs.Joined.{Value, field_bytes, joined, placed, all_placed}
@@ -48,12 +49,12 @@ module _ (pre : List ℕ) (f : Value) (rest : List ℕ) where
 
 -- The sheet has the version where its field has come.
 abbrev Tells : (s : List ℕ) (version : ℕ) (come : List Field) → Type 0
-Tells s version come = (part_of come 1).present ≡ true → at s (part_of come 1).from ≡ version
+Tells s version come = is_some (part_of come 1) ≡ true → at s (or_empty (part_of come 1)).from ≡ version
 
 told : (s : List ℕ) (version : ℕ) (come : List Field) → Tells s version come → version_of s come ≡ told_version version come
-told s version come h = by_present (part_of come 1).present refl
+told s version come h = by_present (is_some (part_of come 1)) refl
   where
-    by_present : (b : Bool) → (part_of come 1).present ≡ b → version_of s come ≡ told_version version come
+    by_present : (b : Bool) → is_some (part_of come 1) ≡ b → version_of s come ≡ told_version version come
     by_present true e = rw e (h e)
     by_present false e = rw e
 

@@ -1,4 +1,5 @@
 -- What a field that no check refuses is, and that such a field passes. Each check passes exactly where its test fails. Assumes nothing.
+use Rattle.std.specs.Prelude.{Ok}
 use Prim.Native.Nat.{ℕ, ◌+◌, ◌-◌, ◌≤◌, ◌<◌}
 use mathlib.Core.Path.{◌≡◌, refl}
 use mathlib.Core.Bool.{false, not, ◌&&◌}
@@ -10,13 +11,10 @@ use lib.ListN.{length}
 use Rattle.limits.specs.Limits.{header_bytes}
 use Rattle.sums.specs.Table.{at}
 use Rattle.answer.specs.First.{first}
-use Rattle.answer.specs.declared.Check.TheVariants.{Passed}
 use Rattle.answer.proofs.Firsts.{both, passes, neither}
 use Rattle.fields.specs.Fields.{Field, tag_at, length_at, field_at, last_tag, version_of}
-use Rattle.fields.specs.Tags.{tags, known_version, fit, lacks}
+use Rattle.fields.specs.Tags.{Fit, Unknown, Wrong, Right, tags, known_version, fit, lacks}
 use Rattle.fields.specs.Checks.{is_unknown, is_wrong, value_order, field_order}
-use Rattle.fields.specs.declared.Fit.{Fit}
-use Rattle.fields.specs.declared.Fit.TheVariants.{Unknown, Wrong, Right}
 
 -- A field that may follow those that have come.
 pub record Follows (s : List ℕ) (come : List Field) (f : Field) : Type 0 where
@@ -33,7 +31,7 @@ right_left Wrong e d = absurd (let z : ◌≡◌ {A = ℕ} 0 1 = cc in omega ari
 right_left Right e d = refl
 
 module _ (s : List ℕ) (come : List Field) (o : ℕ) where
-  pub value_passes : {tag len : ℕ} → o + header_bytes ≤ length s → first (value_order s come o tag len) ≡ Passed → Follows s come (record { tag = tag; from = o + header_bytes; len = len })
+  pub value_passes : {tag len : ℕ} → o + header_bytes ≤ length s → first (value_order s come o tag len) ≡ Ok tt → Follows s come (record { tag = tag; from = o + header_bytes; len = len })
   unfolding value_order
   value_passes {tag} {len} h e =
       let x₁ = both _ _ e in
@@ -51,7 +49,7 @@ module _ (s : List ℕ) (come : List Field) (o : ℕ) where
         version = passes _ _ 0 o x₅.0;
       }
 
-  pub field_passes : first (field_order s come o) ≡ Passed → Follows s come (field_at s o)
+  pub field_passes : first (field_order s come o) ≡ Ok tt → Follows s come (field_at s o)
   unfolding field_order
   field_passes e =
       let x = both _ (first (value_order s come o (tag_at s o) (length_at s o))) e in
@@ -59,7 +57,7 @@ module _ (s : List ℕ) (come : List Field) (o : ℕ) where
       value_passes (omega arith) x.1
 
   -- And the other way.
-  pub follows_passes : Follows s come (field_at s o) → first (field_order s come o) ≡ Passed
+  pub follows_passes : Follows s come (field_at s o) → first (field_order s come o) ≡ Ok tt
   unfolding field_order value_order
   follows_passes h =
       let k : header_bytes ≤ length s - o = omega (arith, h.whole) in

@@ -1,5 +1,6 @@
 -- Laws of any table of tags, by recursion over its rows: what a right length is, that no required tag is lacking, that the part of a tag that has come suits
 -- its row, and how far fields reach. No tag's number stands here; Table has what is computed from the rows of document 01. Assumes nothing.
+use Rattle.std.specs.Prelude.{is_some}
 use Prim.Native.Nat.{ℕ, ◌+◌, ◌%◌, ◌≤◌, ◌<◌}
 use mathlib.Core.Path.{◌≡◌, refl, sym, ap, subst}
 use mathlib.Core.Bool.{Bool, true, false, not, cond, ◌&&◌}
@@ -10,10 +11,8 @@ use borrow.Author.Tests.{eq-eqb, ne_eqb, le-leb, lt-ltb, le-ltb, eqb-true, leb-t
 use lib.Dec.{eqb, ltb, leb}
 use Rattle.limits.specs.Limits.{header_bytes}
 use Rattle.answer.proofs.Firsts.{neither}
-use Rattle.fields.specs.Fields.{Field, last_tag, part_of}
-use Rattle.fields.specs.Tags.{Rule, exactly, multiple_of, that_of, Row, row, required, optional, right, fit, lacks}
-use Rattle.fields.specs.declared.Fit.{Fit}
-use Rattle.fields.specs.declared.Fit.TheVariants.{Wrong, Right}
+use Rattle.fields.specs.Fields.{Field, last_tag, part_of, or_empty}
+use Rattle.fields.specs.Tags.{Fit, Wrong, Right, Rule, exactly, multiple_of, that_of, Row, row, required, optional, right, fit, lacks}
 
 pub never : {A : Type 0} → true ≡ false → A
 never d = absurd (let z : ◌≡◌ {A = ℕ} 0 1 = cc in omega arith)
@@ -23,7 +22,7 @@ never d = absurd (let z : ◌≡◌ {A = ℕ} 0 1 = cc in omega arith)
 abbrev Suits : (come : List Field) → Rule → (len : ℕ) → Type 0
 Suits come (exactly n) len = len ≡ n
 Suits come (multiple_of step most) len = (len % step ≡ 0) × (len ≤ most)
-Suits come (that_of tag) len = len ≡ (part_of come tag).len
+Suits come (that_of tag) len = len ≡ (or_empty (part_of come tag)).len
 
 abbrev pub pick : Bool → Type 0 → Type 0 → Type 0
 pick true A B = A
@@ -41,12 +40,12 @@ both_true false b e = never (sym e)
 right_suits : (come : List Field) (rule : Rule) (len : ℕ) → right come rule len ≡ true → Suits come rule len
 right_suits come (exactly n) len e = eqb-true len n e
 right_suits come (multiple_of step most) len e = let x = both_true (eqb (len % step) 0) (leb len most) e in (eqb-true (len % step) 0 x.0, leb-true len most x.1)
-right_suits come (that_of tag) len e = eqb-true len (part_of come tag).len e
+right_suits come (that_of tag) len e = eqb-true len (or_empty (part_of come tag)).len e
 
 suits_right : (come : List Field) (rule : Rule) (len : ℕ) → Suits come rule len → right come rule len ≡ true
 suits_right come (exactly n) len h = eq-eqb len n h
 suits_right come (multiple_of step most) len h = rw (eq-eqb (len % step) 0 h.0, le-leb len most h.1)
-suits_right come (that_of tag) len h = eq-eqb len (part_of come tag).len h
+suits_right come (that_of tag) len h = eq-eqb len (or_empty (part_of come tag)).len h
 
 right_only : (b : Bool) → cond b Right Wrong ≡ Right → b ≡ true
 right_only true e = refl
@@ -79,14 +78,14 @@ module _ (come : List Field) (tag len : ℕ) where
 -- The required tags below the bound have come.
 abbrev Has : List Row → (come : List Field) (bound : ℕ) → Type 0
 Has [] come bound = Unit {0}
-Has (row t required rule ∷ rows) come bound = (t < bound → (part_of come t).present ≡ true) × Has rows come bound
+Has (row t required rule ∷ rows) come bound = (t < bound → is_some (part_of come t) ≡ true) × Has rows come bound
 Has (row t optional rule ∷ rows) come bound = Has rows come bound
 
 pub lacks_none : (come : List Field) (bound : ℕ) (rows : List Row) → lacks rows come bound ≡ false → Has rows come bound
 lacks_none come bound [] e = tt
 lacks_none come bound (row t required rule ∷ rows) e =
-    let x = neither (ltb t bound && not (part_of come t).present) (lacks rows come bound) e in
-    ((λ h. not-false (part_of come t).present (rw (lt-ltb t bound h) at x.0)), lacks_none come bound rows x.1)
+    let x = neither (ltb t bound && not (is_some (part_of come t))) (lacks rows come bound) e in
+    ((λ h. not-false (is_some (part_of come t)) (rw (lt-ltb t bound h) at x.0)), lacks_none come bound rows x.1)
 lacks_none come bound (row t optional rule ∷ rows) e = lacks_none come bound rows e
 
 -- ---- the parts of tags that have come
@@ -120,20 +119,20 @@ module _ (f : Field) (come : List Field) where
       on_row (eqb tag t) _ _ _ _ (λ e. suits_on t (omega (arith, eqb-true tag t e)) rule lower.0 len) (fitting_on tag len low rows lower.1) h
 
 module _ (rows : List Row) where
-  pub part_low : (come : List Field) (tag : ℕ) → InOrder rows come → (part_of come tag).present ≡ true → tag ≤ last_tag come
+  pub part_low : (come : List Field) (tag : ℕ) → InOrder rows come → is_some (part_of come tag) ≡ true → tag ≤ last_tag come
   unfolding part_of
   part_low [] tag h p = never (sym p)
   part_low (f ∷ come) tag h p = elim (ℕ_discrete f.tag tag) [ yes e ↦ omega arith | no e ↦ omega (arith, h.1, part_low come tag h.2 (rw (ne_eqb f.tag tag e) at p)) ]
 
   -- The part of a tag that has come suits its row.
-  pub part_suits : AllLower rows → (come : List Field) (tag : ℕ) → InOrder rows come → (part_of come tag).present ≡ true → Fitting rows come tag (part_of come tag).len
+  pub part_suits : AllLower rows → (come : List Field) (tag : ℕ) → InOrder rows come → is_some (part_of come tag) ≡ true → Fitting rows come tag (or_empty (part_of come tag)).len
   unfolding part_of
   part_suits lower [] tag h p = never (sym p)
   part_suits lower (f ∷ come) tag h p = elim (ℕ_discrete f.tag tag) [
     | yes e ↦ rw (eq-eqb f.tag tag e) (fitting_on f come tag f.len (omega arith) rows lower (subst (λ (t : ℕ). Fitting rows come t f.len) e (fits_row come f.tag f.len rows h.0)))
     | no e ↦
         let p' = rw (ne_eqb f.tag tag e) at p in
-        rw (ne_eqb f.tag tag e) (fitting_on f come tag (part_of come tag).len (omega (arith, h.1, part_low come tag h.2 p')) rows lower (part_suits lower come tag h.2 p'))
+        rw (ne_eqb f.tag tag e) (fitting_on f come tag (or_empty (part_of come tag)).len (omega (arith, h.1, part_low come tag h.2 p')) rows lower (part_suits lower come tag h.2 p'))
   ]
 
 -- ---- how far fields reach
@@ -202,12 +201,12 @@ module _ (most : ℕ → ℕ) where
 
   module _ (come : List Field) (len : ℕ) where
     -- A field with a right length is no longer than its rule allows, and reaches no further.
-    cap : ((t : ℕ) → (part_of come t).len ≤ most t) → (tag : ℕ) (rule : Rule) → Capped most tag rule → Suits come rule len → len ≤ most tag
+    cap : ((t : ℕ) → (or_empty (part_of come t)).len ≤ most t) → (tag : ℕ) (rule : Rule) → Capped most tag rule → Suits come rule len → len ≤ most tag
     cap low tag (exactly n) c h = omega arith
     cap low tag (multiple_of step m) c h = omega arith
     cap low tag (that_of t) c h = omega (arith, low t)
 
-    reach_on : ((t : ℕ) → (part_of come t).len ≤ most t) → (tag : ℕ) → last_tag come < tag → (rows : List Row) → Caps most rows → Fitting rows come tag len
+    reach_on : ((t : ℕ) → (or_empty (part_of come t)).len ≤ most t) → (tag : ℕ) → last_tag come < tag → (rows : List Row) → Caps most rows → Fitting rows come tag len
         → (len ≤ most tag) × (reach most rows (last_tag come) + (header_bytes + most tag) ≤ reach most rows tag)
     reach_on low tag above [] caps h = absurd h
     reach_on low tag above (row t presence rule ∷ rows) caps h = elim (ℕ_discrete tag t) [
@@ -225,7 +224,7 @@ module _ (most : ℕ → ℕ) where
 -- The next offset is within reach, and so are the parts.
 pub record Within (most : ℕ → ℕ) (rows : List Row) (come : List Field) (o : ℕ) : Type 0 where
   pub near : o ≤ reach most rows (last_tag come)
-  pub low : (t : ℕ) → (part_of come t).len ≤ most t
+  pub low : (t : ℕ) → (or_empty (part_of come t)).len ≤ most t
 
 pub within_start : (most : ℕ → ℕ) (rows : List Row) → Within most rows [] 0
 unfolding part_of

@@ -1,5 +1,6 @@
 -- Fields that are accepted follow one another, lie in the sheet, and lack no required tag; so their parts lie in the sheet. By recursion on the count of
 -- fields. Assumes nothing.
+use Rattle.std.specs.Prelude.{Ok, Err}
 use Prim.Native.Nat.{ℕ, zero, suc, ◌+◌, ◌≤◌}
 use mathlib.Core.Path.{◌≡◌, refl, subst}
 use mathlib.Core.Bool.{Bool, true, false, cond}
@@ -10,10 +11,9 @@ use borrow.Author.Tests.{eq-eqb, ne_eqb}
 use lib.Dec.{leb}
 use lib.ListN.{length}
 use Rattle.answer.specs.First.{first}
-use Rattle.answer.specs.declared.Check.{Check}
-use Rattle.answer.specs.declared.Check.TheVariants.{Passed, Refused}
+use Rattle.answer.specs.Check.{Check}
 use Rattle.answer.proofs.Firsts.{passes}
-use Rattle.fields.specs.Fields.{Field, field_at, next_at, version_of, part_of}
+use Rattle.fields.specs.Fields.{Field, field_at, next_at, version_of, part_of, or_empty}
 use Rattle.fields.specs.Tags.{tags, lacks}
 use Rattle.fields.specs.Checks.{above_tags, field_order, end_check}
 use Rattle.fields.specs.Walk.{Reading, accepted, unless, walk, reading}
@@ -30,9 +30,9 @@ pub record WholeSheet (s : List ℕ) (come : List Field) : Type 0 where
 
 -- ---- accepted fields
 
-pub unless_accepted : (c : Check) (x : Reading) {come : List Field} → unless c x ≡ accepted come → (c ≡ Passed) × (x ≡ accepted come)
-unless_accepted Passed x e = (refl, e)
-unless_accepted (Refused r) x e = absurd (let z : ◌≡◌ {A = ℕ} 0 1 = cc in omega arith)
+pub unless_accepted : (c : Check) (x : Reading) {come : List Field} → unless c x ≡ accepted come → (c ≡ Ok tt) × (x ≡ accepted come)
+unless_accepted (Ok _) x e = (refl, e)
+unless_accepted (Err r) x e = absurd (let z : ◌≡◌ {A = ℕ} 0 1 = cc in omega arith)
 
 same_fields : {come fields : List Field} → accepted come ≡ accepted fields → come ≡ fields
 same_fields e = cc
@@ -60,7 +60,7 @@ module _ (s : List ℕ) (fields : List Field) where
 -- ---- the parts
 
 -- A part lies in the sheet, present or not.
-pub part_inside : (s : List ℕ) (come : List Field) (tag : ℕ) → Sound s come → (part_of come tag).from + (part_of come tag).len ≤ length s
+pub part_inside : (s : List ℕ) (come : List Field) (tag : ℕ) → Sound s come → (or_empty (part_of come tag)).from + (or_empty (part_of come tag)).len ≤ length s
 unfolding part_of
 part_inside s [] tag h = omega arith
 part_inside s (f ∷ come) tag h = elim (ℕ_discrete f.tag tag) [

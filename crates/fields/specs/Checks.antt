@@ -6,11 +6,9 @@ use Rattle.limits.specs.Limits.{header_bytes}
 use Rattle.sums.specs.Table.{at}
 use Rattle.answer.specs.Refuse.{refuse_if}
 use Rattle.answer.specs.declared.Case.TheVariants.{Cut, Tag, Length, Missing, Version}
-use Rattle.answer.specs.declared.Check.{Check}
+use Rattle.answer.specs.Check.{Check}
 use Rattle.fields.specs.Fields.{Field, tag_at, length_at, last_tag, version_of}
-use Rattle.fields.specs.Tags.{tags, known_version, fit, lacks}
-use Rattle.fields.specs.declared.Fit.{Fit}
-use Rattle.fields.specs.declared.Fit.TheVariants.{Unknown, Wrong, Right}
+use Rattle.fields.specs.Tags.{tags, known_version, Fit, Unknown, Wrong, Right, fit, lacks}
 
 abbrev pub is_unknown : Fit → Bool
 is_unknown Unknown = true

@@ -1,5 +1,6 @@
 -- "Tagged fields: tag one byte, length two bytes, value" (document 01, The pattern sheet).
-use Rattle.std.specs.Prelude.{ℕ, ◌+◌, true, false, cond, List, [], ◌∷◌, eqb}
+use Rattle.std.specs.Prelude.{ℕ, ◌+◌, ◌≡◌, cond, List, [], ◌∷◌, take, drop, eqb, Option, Some, None, is_some}
+use Rattle.std.specs.Borrow.{Bor}
 use Rattle.limits.specs.Limits.{header_bytes}
 use Rattle.sums.specs.Table.{at}
 use Rattle.octets.specs.Numbers.{big_endian}
@@ -30,14 +31,26 @@ abbrev pub last_tag : (come : List Field) → ℕ
 last_tag [] = 0
 last_tag (f ∷ come) = f.tag
 
--- The part that holds the value of the field with this tag: empty, and not present, where no such field has come.
-abbrev pub absent : Part
-absent = record { present = false; from = 0; len = 0 }
+-- The part that holds the value of the field with this tag, where such a field has come.
+unfoldable pub part_of : (come : List Field) (tag : ℕ) → Option Part
+part_of [] tag = None
+part_of (f ∷ come) tag = cond (eqb f.tag tag) (Some (record { from = f.from; len = f.len })) (part_of come tag)
 
-unfoldable pub part_of : (come : List Field) (tag : ℕ) → Part
-part_of [] tag = absent
-part_of (f ∷ come) tag = cond (eqb f.tag tag) (record { present = true; from = f.from; len = f.len }) (part_of come tag)
+-- Where none has come, an empty part.
+abbrev pub or_empty : Option Part → Part
+or_empty None = record { from = 0; len = 0 }
+or_empty (Some part) = part
 
 -- The version that the sheet has told so far; 0 before it tells one.
 abbrev pub version_of : (s : List ℕ) (come : List Field) → ℕ
-version_of s come = cond (part_of come 1).present (at s (part_of come 1).from) 0
+version_of s come = cond (is_some (part_of come 1)) (at s (or_empty (part_of come 1)).from) 0
+
+-- ---- the bytes of a part
+
+abbrev pub bytes_of : (s : List ℕ) → Part → List ℕ
+bytes_of s part = take part.len (drop part.from s)
+
+-- The slice r is that part of the slice s: these of its bytes, where they lie in memory.
+pub record IsPart (s : Bor (List ℕ)) (part : Part) (r : Bor (List ℕ)) : Type 0 where
+  pub bytes : r.now ≡ bytes_of s.now part
+  pub place : r.ref_ptr ≡ (s.ref_ptr.0, part.from + s.ref_ptr.1)

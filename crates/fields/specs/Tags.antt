@@ -1,9 +1,7 @@
 -- The table of document 01, "The pattern sheet": the tags that a version knows, which of them a sheet must have, and their lengths.
-use Rattle.std.specs.Prelude.{ℕ, ◌%◌, Bool, false, not, cond, ◌&&◌, ◌||◌, List, [], ◌∷◌, eqb, ltb, leb}
+use Rattle.std.specs.Prelude.{ℕ, ◌%◌, Bool, false, not, cond, ◌&&◌, ◌||◌, List, [], ◌∷◌, eqb, ltb, leb, is_some}
 use Rattle.limits.specs.Limits.{version_bytes, modulus_bytes, factor_bytes, entry_bytes, most_factor_bytes, most_entry_bytes}
-use Rattle.fields.specs.Fields.{Field, part_of}
-use Rattle.fields.specs.declared.Fit.{Fit}
-use Rattle.fields.specs.declared.Fit.TheVariants.{Unknown, Wrong, Right}
+use Rattle.fields.specs.Fields.{Field, part_of, or_empty}
 
 pub data Presence : Type 0 where
   required : Presence
@@ -36,7 +34,13 @@ known_version version = eqb version 1
 abbrev pub right : (come : List Field) → Rule → (len : ℕ) → Bool
 right come (exactly n) len = eqb len n
 right come (multiple_of step most) len = eqb (len % step) 0 && leb len most
-right come (that_of tag) len = eqb len (part_of come tag).len
+right come (that_of tag) len = eqb len (or_empty (part_of come tag)).len
+
+-- How a tag and a length stand to the table.
+pub data Fit : Type 0 where
+  Unknown : Fit
+  Wrong : Fit
+  Right : Fit
 
 -- Whether the tag is known, and the length right, after the fields that have come.
 abbrev pub fit : List Row → (come : List Field) (tag len : ℕ) → Fit
@@ -46,5 +50,5 @@ fit (row t presence rule ∷ rows) come tag len = cond (eqb tag t) (cond (right 
 -- Whether a required tag below the bound has not come.
 abbrev pub lacks : List Row → (come : List Field) (bound : ℕ) → Bool
 lacks [] come bound = false
-lacks (row t required rule ∷ rows) come bound = (ltb t bound && not (part_of come t).present) || lacks rows come bound
+lacks (row t required rule ∷ rows) come bound = (ltb t bound && not (is_some (part_of come t))) || lacks rows come bound
 lacks (row t optional rule ∷ rows) come bound = lacks rows come bound

@@ -1,5 +1,6 @@
 -- Every line of the table holds, and none of the wrong lines: each kind of line can be shown or rejected by computation, and that of a whole table is computed
 -- once. Assumes nothing.
+use Rattle.std.specs.Prelude.{Ok, Err}
 use Prim.Native.Nat.{ℕ, zero, suc, ◌*◌, ◌/◌, ◌%◌, ◌<◌, ◌∣◌}
 use mathlib.Core.Path.{◌≡◌, refl, subst}
 use mathlib.Core.Logic.{◌↔◌}
@@ -25,14 +26,13 @@ use Rattle.checks.specs.Checks.{first_high}
 use Rattle.answer.specs.First.{first}
 use Rattle.answer.specs.Reply.{check_reply}
 use Rattle.checks.specs.Order.{order, ring_order}
-use Rattle.answer.specs.declared.Check.{Check}
-use Rattle.answer.specs.declared.Check.TheVariants.{Passed, Refused}
+use Rattle.answer.specs.Check.{Check}
 use Rattle.pattern.specs.Singular.{Singular}
 use Rattle.pattern.specs.GhostPolynomial.{Degree}
 use Rattle.checks.specs.Factors.{factors}
 use Rattle.pattern.specs.Promises.{invert_order}
 use Rattle.pattern.proofs.OnePrime.{zero_singular}
-use Rattle.pattern.specs.Factored.{factored}
+use Rattle.factors.specs.Factored.{factored}
 use Rattle.pattern.specs.Granted.{Granted}
 use Rattle.pattern.proofs.Granted.{granted, invert_passes}
 use Rattle.pattern.proofs.Demand2.{invert_ghost}
@@ -58,14 +58,14 @@ if_no (no n) = some n
 
 -- ---- a call of invert that no check refuses, but for the length of its output
 
-abbrev passed? : (c : Check) → Option (c ≡ Passed)
-passed? Passed = some refl
-passed? (Refused r) = none
+abbrev passed? : (c : Check) → Option (c ≡ Ok tt)
+passed? (Ok _) = some refl
+passed? (Err r) = none
 
-given : (f : List ℕ) (m : ℕ) (ps es : List ℕ) → first (ring_order f [] m (factors m ps es) []) ≡ Passed → Granted f [] (factored m ps es)
+given : (f : List ℕ) (m : ℕ) (ps es : List ℕ) → first (ring_order f [] m (factors m ps es) []) ≡ Ok tt → Granted f [] (factored m ps es)
 given f m ps es ok = (granted f [] (factored m ps es) [] ok).0
 
-passes : (f : List ℕ) (m : ℕ) (ps es : List ℕ) → first (ring_order f [] m (factors m ps es) []) ≡ Passed → (old : List ℕ) → length old ≡ length f → first (invert_order f (factored m ps es) (length old)) ≡ Passed
+passes : (f : List ℕ) (m : ℕ) (ps es : List ℕ) → first (ring_order f [] m (factors m ps es) []) ≡ Ok tt → (old : List ℕ) → length old ≡ length f → first (invert_order f (factored m ps es) (length old)) ≡ Ok tt
 passes f m ps es ok old e = invert_passes f (factored m ps es) (length old) (given f m ps es ok) e
 
 -- ---- the parts of a ghost line

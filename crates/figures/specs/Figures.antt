@@ -1,14 +1,14 @@
 -- Document 01, "Figures to try it on": the lines marked P and those on factor lists, as document 02's first request reads them, as one table, and what each
 -- kind of line says. That all of them hold is the theorem `figures` in proofs/Figures.antt. Beside them lines that a wrong program would give, and what it is that one is rejected: all of them are, by
 -- `rejected_figures`.
-use Rattle.std.specs.Prelude.{ℕ, ◌≡◌, List, [], ◌∷◌, length}
+use Rattle.std.specs.Prelude.{ℕ, ◌≡◌, List, [], ◌∷◌, length, Ok, Err}
 use Rattle.ring.specs.Mix.{mix}
 use Rattle.ring.specs.Fold.{fold}
 use Rattle.answer.specs.Reply.{check_reply}
-use Rattle.answer.specs.declared.Answer.TheVariants as answer
+use Rattle.answer.specs.declared.Failure.TheVariants as answer
 use Rattle.checks.specs.Factors.{factors}
 use Rattle.pattern.specs.Singular.{Singular}
-use Rattle.pattern.specs.Factored.{factored}
+use Rattle.factors.specs.Factored.{factored}
 use Rattle.pattern.specs.Promises.{Inverts}
 
 -- The factor list of m, which document 01 leaves out, is given by its primes and exponents.
@@ -28,16 +28,16 @@ AllSingular f (p ∷ ps) = Singular (length f) p f × AllSingular f ps
 -- and the further primes are singular. "m, a mixed with b is c"; "m, a folded onto the length of c is c"; "m with primes and exponents is number at
 -- place": the checks of the factor list answer so, 0 where they pass.
 abbrev pub Says : Line → Type 0
-Says (inverse m ps es f g) = (old : List ℕ) → length old ≡ length f → Inverts f (factored m ps es) old answer.Done g
-Says (ghost m ps es f p out also) = ((old : List ℕ) → length old ≡ length f → Inverts f (factored m ps es) old (answer.Singular 1 p) out) × AllSingular f also
+Says (inverse m ps es f g) = (old : List ℕ) → length old ≡ length f → Inverts f (factored m ps es) old (Ok tt) g
+Says (ghost m ps es f p out also) = ((old : List ℕ) → length old ≡ length f → Inverts f (factored m ps es) old (Err (answer.Singular 1 p)) out) × AllSingular f also
 Says (mixed m a b c) = mix (length a) m a b ≡ c
 Says (folded m a c) = fold (length a) (length c) m a ≡ c
 Says (listed m ps es number place) = let r = check_reply (factors m ps es) in (r.number ≡ number) × (r.place ≡ place)
 
 -- Of an answer that is wrong: it fits in no call, whatever output was lent.
 abbrev pub Rejected : Line → Type 0
-Rejected (inverse m ps es f g) = (old : List ℕ) → ¬ Inverts f (factored m ps es) old answer.Done g
-Rejected (ghost m ps es f p out also) = (old : List ℕ) → ¬ Inverts f (factored m ps es) old (answer.Singular 1 p) out
+Rejected (inverse m ps es f g) = (old : List ℕ) → ¬ Inverts f (factored m ps es) old (Ok tt) g
+Rejected (ghost m ps es f p out also) = (old : List ℕ) → ¬ Inverts f (factored m ps es) old (Err (answer.Singular 1 p)) out
 Rejected (mixed m a b c) = ¬ (mix (length a) m a b ≡ c)
 Rejected (folded m a c) = ¬ (fold (length a) (length c) m a ≡ c)
 Rejected (listed m ps es number place) = ¬ Says (listed m ps es number place)

@@ -1,3 +1,2 @@
--- The steps along the factor list; what inverting gives.
+-- The steps along the factor list.
 pub mod Steps
-pub mod Inverting

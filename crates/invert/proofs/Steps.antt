@@ -1,36 +1,41 @@
 -- The steps along the factor list, as the code takes them: Euclid on f modulo p, the lift to p^k, and joining with what stands already.
 -- Each says over plain variables what a function is given and what its result means. Assumes nothing.
-use Prim.Native.Nat.{ℕ, ◌+◌, ◌*◌, ◌^◌, ◌≤◌, ◌<◌}
+use Rattle.std.specs.Prelude.{Result, Ok, Err, Some, IsOk, replicate}
+use Prim.Native.Nat.{ℕ, zero, suc, ◌+◌, ◌*◌, ◌^◌, ◌≤◌, ◌<◌}
 use mathlib.Core.Path.{◌≡◌, refl, sym, ap, ◌∙◌, subst}
-use mathlib.Core.List.{List, ◌++◌, append-nil}
+use mathlib.Core.List.{List, ◌∷◌}
 use native.Mathlib.Omega.{arith}
-use native.Mathlib.Nat.{mul_comm, le_trans, le-mul_of_pos_right, pow-zero, pow-suc, pow-le-pow_right}
-use lib.ListN.{length, drop, drop_of_length-le}
-use Rattle.sums.specs.Table.{at}
+use native.Mathlib.Nat.{mul_comm, le_trans, pow-zero, pow-suc, pow-le-pow_right}
+use lib.ListN.{length}
+use denote.Ref.{Bor}
+use Rattle.std.specs.Iterator.{Yields}
+use Rattle.std.specs.Iterator.Adapters.{zip_first, zip_second}
+use Rattle.std.specs.Slice.Iter.{iter_rest}
+use Rattle.std.specs.declared.slice.Iter.{Iter}
+use Rattle.std.specs.declared.iter.Zip.{Zip}
+use Rattle.std.proofs.iter.Yields.{fronts}
+use Rattle.std.proofs.lemmas.Iterator.{zips}
+use Rattle.std.proofs.lemmas.Slice.Zip.{zip_turn}
+use Rattle.sums.specs.Table.{at, table}
 use Rattle.limits.specs.Limits.{most_modulus}
 use Rattle.modular.specs.Finds as finds
-use Rattle.modular.specs.FactorList.{powers, FactorList}
+use Rattle.modular.specs.declared.inverse.Shares.{Shares}
 use Rattle.modular.proofs.Factors.{Listed, listed, rising_same}
 use Rattle.ring.specs.One.{zeros}
-use Rattle.ring.specs.Inverse.{Inverse}
+use Rattle.ring.specs.Inverse.{Inverse, Invertible}
 use Rattle.ring.proofs.Glue.{inverse_none}
 use Rattle.euclid.specs.Answer.{Answers, Solvable}
-use Rattle.euclid.specs.declared.Outcome.{Outcome}
-use Rattle.euclid.specs.declared.Outcome.TheVariants.{Inverted, Shared}
-use Rattle.lift.specs.Asks as lift
+use Rattle.euclid.specs.declared.Shared.{Shared}
 use Rattle.lift.specs.Asks.{Liftable}
-use Rattle.pattern.specs.Factored.{factored}
+use Rattle.factors.specs.Factored.{Factored}
 use Rattle.pattern.specs.Singular.{Singular}
-use Rattle.pattern.specs.GhostPolynomial.{GhostPolynomial}
 use Rattle.pattern.proofs.Link.{reduced_ring, inverse_series}
 use Rattle.pattern.proofs.OnePrime.{haunted_ring}
 use Rattle.pattern.proofs.FirstPowers.{first-powers, first_next, first_all, first_some, first_low, first_apart, power_above, power_shares}
 use Rattle.pattern.proofs.Patterns.{smallest_next}
 use Rattle.invert.specs.Inversions.{CanInvert}
-use Rattle.invert.specs.Inner.{PowerFits, PrimePower, Apart, NextPower, ProgressMeans, Progressed, Solved}
-use Rattle.invert.specs.declared.Progress.{Progress}
-use Rattle.invert.specs.declared.Progress.TheVariants as progress
-use Rattle.invert.specs.declared.Inversion.TheVariants as inversion
+use Rattle.invert.specs.Inner.{PrimePower, PowerFound, Apart, NextPower, Progressed, Solved}
+use Rattle.invert.specs.declared.Ghost.{Ghost}
 
 -- ---- modulo p, and modulo p^k
 
@@ -44,115 +49,104 @@ module _ {f out : List ℕ} {p k top : ℕ} (pre : PrimePower f p k top out) whe
   pub solvable : Solvable p f out
   solvable = record { sizes = record { prime = pre.prime; word = omega (arith, low); some = pre.some; most = pre.few }; room = pre.long }
 
-  module _ {new : List ℕ} {o : Outcome} (a : Answers (length f) p (at f) new o) where
-    pub liftable : o ≡ Inverted → Liftable f new p k top
-    liftable e =
-        let b = subst (Answers (length f) p (at f) new) e a in
-        record {
-          prime = pre.prime.two;
-          exponent = pre.exponent;
-          power = pre.power;
-          limit = pre.limit;
-          some = pre.some;
-          few = pre.few;
-          inverse = (inverse_series (length f) p pre.prime.two pre.some f new refl (reduced_ring (length f) p new b.long b.reduced)).1 b.means;
-        }
+  module _ {new : List ℕ} where
+    pub liftable : {u : Unit {0}} → Answers (length f) p (at f) new (Ok u) → Liftable f new p k top
+    liftable a = record {
+      prime = pre.prime.two;
+      exponent = pre.exponent;
+      power = pre.power;
+      limit = pre.limit;
+      some = pre.some;
+      few = pre.few;
+      inverse = (inverse_series (length f) p pre.prime.two pre.some f new refl (reduced_ring (length f) p new a.long a.reduced)).1 a.means;
+    }
 
-    pub haunting : {d : ℕ} → o ≡ Shared d → Singular (length f) p f × GhostPolynomial (length f) p f new
-    haunting {d} e =
-        let b = subst (Answers (length f) p (at f) new) e a in
-        haunted_ring (length f) p pre.prime pre.some f refl d new b.long b.means
+    pub haunting : {s : Shared} → Answers (length f) p (at f) new (Err s) → PowerFound f p k new (Err s)
+    haunting {s} a = record { means = haunted_ring (length f) p pre.prime pre.some f refl s.degree new a.long a.means }
 
 -- ---- joining
 
-module _ {f acc : List ℕ} {p k big : ℕ} (pre : NextPower f p k big acc) where
-  power_low : p ^ k ≤ most_modulus
-  power_low = le_trans (le-mul_of_pos_right (p ^ k) pre.positive) pre.limit
+-- Numbers that share no factor: an inverse is found.
+pub apart_found : {q big : ℕ} {r : Result ℕ Shares} → ((d : ℕ) → finds.Shared q big d → ⊥) → finds.Finds q big r → IsOk r
+apart_found {r = Ok z} apart f = refl
+apart_found {r = Err s} apart f = absurd (apart s.divisor ((f.shares s.divisor).0 refl))
 
-  pub power_given : PowerFits p k
-  power_given = record { positive = omega (arith, pre.prime.two); limit = power_low }
+pub apart : {f acc g : List ℕ} {p k q big : ℕ} {u : Unit {0}} → NextPower f p k big acc → q ≡ p ^ k → PowerFound f p k g (Ok u) → Apart g acc q big
+apart {p = p} {k} {big = big} pre e found =
+    let same = found.means.ring.long in
+    record {
+      above = rw e (power_above p k pre.prime.two pre.exponent);
+      limit = rw e pre.limit;
+      some = pre.positive;
+      apart = λ d s. power_shares p k big pre.prime pre.apart (subst (λ (x : ℕ). finds.Shared x big d) e s);
+      ring = rw (e, same) found.means.ring;
+      ring' = rw same pre.inverse.ring;
+    }
 
-  module _ {q : ℕ} (e : q ≡ p ^ k) where
-    pub prime_power : {g : List ℕ} → length g ≡ length f → PrimePower f p k q g
-    prime_power l = record { prime = pre.prime; exponent = pre.exponent; power = e; limit = omega (arith, e, power_low); some = pre.some; few = pre.few; long = l }
-
-    pub power_fits : q * big ≤ most_modulus
-    power_fits = rw e pre.limit
-
-    module _ {g : List ℕ} (a : Inverse (length f) (p ^ k) f g) where
-      pub apart : Apart g acc q big
-      apart = record {
-        above = rw e (power_above p k pre.prime.two pre.exponent);
-        limit = power_fits;
-        some = pre.positive;
-        apart = λ d s. power_shares p k big pre.prime pre.apart (subst (λ (x : ℕ). finds.Shared x big d) e s);
-        ring = rw (e, a.ring.long) a.ring;
-        ring' = rw a.ring.long pre.inverse.ring;
-      }
-
-      pub joined : {new : List ℕ} → lift.Joined g acc q big new → Progressed f p k big new (progress.Joined (q * big))
-      joined {new} j = record { means = (ap (λ (x : ℕ). x * big) e, subst (λ (x : ℕ). Inverse (length f) (x * big) f new) e both) }
-        where
-          same : length g ≡ length f
-          same = a.ring.long
-
-          both : Inverse (length f) (q * big) f new
-          both =
-              subst (λ (n : ℕ). Inverse n (q * big) f new) same
-              (j.inverse f (subst (λ (n : ℕ). Inverse n q f g) (sym same) (subst (λ (x : ℕ). Inverse (length f) x f g) (sym e) a)) (subst (λ (n : ℕ). Inverse n big f acc) (sym same) pre.inverse))
-
-  -- The ghost polynomial copied to where the inverse stood.
-  pub dark : {g new : List ℕ} → Singular (length f) p f × GhostPolynomial (length f) p f g → new ≡ g ++ drop (length g) acc → Progressed f p k big new progress.Dark
-  dark {g} {new} (s, w) e =
-      let short : length acc ≤ length g = omega (arith, pre.inverse.ring.long, w.ring.long) in
-      let is : new ≡ g = e ∙ ap (λ (l : List ℕ). g ++ l) (drop_of_length-le acc short) ∙ append-nil g in
-      record { means = (s, subst (GhostPolynomial (length f) p f) (sym is) w) }
+-- An array of zeros is the ring of zeros.
+zeros_filled : (n : ℕ) → zeros n ≡ replicate n 0
+unfolding zeros table
+zeros_filled zero = refl
+zeros_filled (suc n) = ap (λ (l : List ℕ). 0 ∷ l) (zeros_filled n)
 
 -- ---- along the factor list: before entry i, acc is the inverse modulo the product of the first i powers
 
-module _ {f ps es out : List ℕ} (pre : CanInvert f (factored (powers ps es) ps es) out) where
-  factors : FactorList (powers ps es) ps es
-  factors = pre.granted.factors
+-- Entry i is p with its exponent k.
+pub record Turn (ps es : List ℕ) (i p k : ℕ) : Type 0 where
+  pub inside : i < length ps
+  pub prime : p ≡ at ps i
+  pub exponent : k ≡ at es i
 
-  high : powers ps es ≤ most_modulus
-  high = pre.granted.legal.high
+-- The pair that a loop over both lists is at.
+pub turned : {ps es : List ℕ} {k : ℕ} (xs : List (Bor ℕ × Bor ℕ)) (s t u : Zip (Iter ℕ) (Iter ℕ)) (x : Bor ℕ × Bor ℕ) → iter_rest (zip_first s) ≡ ps → iter_rest (zip_second s) ≡ es → Yields (zips fronts fronts) s xs t
+    → zips fronts fronts t (Some x) u → k ≡ x.1.now → Turn ps es (length xs) x.0.now k
+turned {ps} {es} xs s t u x first second before now e =
+    let turn = zip_turn ps es xs s t u (Some x) first second before x refl now in
+    record { inside = turn.0; prime = turn.2 0; exponent = e ∙ turn.3 0 }
+
+module _ {f out : List ℕ} {M : Factored} (pre : CanInvert f M out) where
+  abbrev ps : List ℕ
+  ps = M.primes
+
+  abbrev es : List ℕ
+  es = M.exponents
 
   pub same_lists : length ps ≡ length es
-  same_lists = rising_same 0 ps es factors.rising
+  same_lists = rising_same 0 ps es pre.granted.factors.rising
 
-  pub walk_start : {acc : List ℕ} → acc ≡ zeros (length out) → Inverse (length f) 1 f acc
-  walk_start {acc} e = subst (Inverse (length f) 1 f) (ap zeros (sym pre.long) ∙ sym e) (inverse_none (length f) f)
+  pub walk_start : {acc : List ℕ} → acc ≡ replicate (length out) 0 → Inverse (length f) 1 f acc
+  walk_start {acc} e = subst (Inverse (length f) 1 f) (ap zeros (sym pre.long) ∙ zeros_filled (length out) ∙ sym e) (inverse_none (length f) f)
 
-  pub walk_end : {acc : List ℕ} {big : ℕ} (i : ℕ) → i ≡ length ps → big ≡ first-powers ps es i → Inverse (length f) big f acc → Solved f (powers ps es) acc inversion.Inverted
-  walk_end {acc} i e b a = record { means = subst (λ (x : ℕ). Inverse (length f) x f acc) (b ∙ ap (first-powers ps es) e ∙ first_all factors) a }
+  pub walk_end : {acc : List ℕ} {big : ℕ} (i : ℕ) → i ≡ length ps → big ≡ first-powers ps es i → Inverse (length f) big f acc → Solved f M.modulus acc (Ok tt)
+  walk_end {acc} i e b a = record { means = subst (λ (x : ℕ). Inverse (length f) x f acc) (b ∙ ap (first-powers ps es) e ∙ first_all pre.granted.factors) a }
 
-  module _ (i : ℕ) (h : i < length ps) {big : ℕ} (b : big ≡ first-powers ps es i) where
-    entry : Listed (at ps i) (at es i) (powers ps es)
-    entry = listed factors i h
+  module _ {i p k : ℕ} (turn : Turn ps es i p k) {big : ℕ} (b : big ≡ first-powers ps es i) where
+    entry : Listed p k M.modulus
+    entry = rw (turn.prime, turn.exponent) (listed pre.granted.factors i turn.inside)
 
-    next_is : at ps i ^ at es i * big ≡ first-powers ps es (i + 1)
-    next_is = ap (λ (x : ℕ). at ps i ^ at es i * x) b ∙ mul_comm (at ps i ^ at es i) (first-powers ps es i) ∙ sym (first_next factors i h)
+    next_is : p ^ k * big ≡ first-powers ps es (i + 1)
+    next_is = rw (turn.prime, turn.exponent, b) (mul_comm (at ps i ^ at es i) (first-powers ps es i) ∙ sym (first_next pre.granted.factors i turn.inside))
 
     module _ {acc : List ℕ} (a : Inverse (length f) big f acc) where
-      pub walk-next : NextPower f (at ps i) (at es i) big acc
+      pub walk-next : NextPower f p k big acc
       walk-next = record {
         prime = entry.prime;
         exponent = entry.exponent;
-        limit = le_trans (subst (λ (x : ℕ). x ≤ powers ps es) (sym next_is) (first_low factors (i + 1))) high;
+        limit = le_trans (subst (λ (x : ℕ). x ≤ M.modulus) (sym next_is) (first_low pre.granted.factors (i + 1))) pre.granted.legal.high;
         some = pre.granted.legal.some;
         few = pre.granted.legal.few;
-        positive = rw b (first_some factors i);
-        apart = rw b (first_apart factors i h);
+        positive = rw b (first_some pre.granted.factors i);
+        apart = rw (b, turn.prime) (first_apart pre.granted.factors i turn.inside);
         inverse = a;
       }
 
-      module _ {new : List ℕ} {made : Progress} (s : Progressed f (at ps i) (at es i) big new made) where
-        pub walk-joined : {next : ℕ} → made ≡ progress.Joined next → (next ≡ first-powers ps es (i + 1)) × Inverse (length f) next f new
-        walk-joined {next} e =
-            let t = subst (ProgressMeans f (at ps i) (at es i) big new) e s.means in
-            (t.0 ∙ next_is, subst (λ (x : ℕ). Inverse (length f) x f new) (sym t.0) t.1)
+      module _ {new : List ℕ} where
+        pub walk-joined : {next : ℕ} → Progressed f p k big new (Ok next) → (next ≡ first-powers ps es (i + 1)) × Inverse (length f) next f new
+        walk-joined s = (s.means.0 ∙ next_is, subst (λ (x : ℕ). Inverse (length f) x f new) (sym s.means.0) s.means.1)
 
-        pub walk_dark : made ≡ progress.Dark → Solved f (powers ps es) new (inversion.Ghost (at ps i))
-        walk_dark e =
-            let t = subst (ProgressMeans f (at ps i) (at es i) big new) e s.means in
-            record { means = (smallest_next factors (length f) pre.granted.legal.some f refl i h (record { inverse = acc; is = subst (λ (x : ℕ). Inverse (length f) x f acc) b a }) t.0, t.1) }
+        pub walk_dark : {g : Ghost} → Progressed f p k big new (Err g) → Solved f M.modulus new (Err g)
+        walk_dark {g} s =
+            let before : Invertible (length f) (first-powers ps es i) f = record { inverse = acc; is = subst (λ (x : ℕ). Inverse (length f) x f acc) b a } in
+            let singular = subst (λ (x : ℕ). Singular (length f) x f) turn.prime s.means.1 in
+            let smallest = smallest_next pre.granted.factors (length f) pre.granted.legal.some f refl i turn.inside before singular in
+            record { means = rw s.means.0 (rw turn.prime smallest, s.means.2) }

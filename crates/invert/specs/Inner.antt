@@ -1,22 +1,16 @@
 -- What the functions behind invert ask of each other, and what they give.
-use Rattle.std.specs.Prelude.{ℕ, ◌*◌, ◌^◌, ◌%◌, ◌≤◌, ◌<◌, ◌≡◌, ◌≢◌, Bool, true, false, List, length}
+use Rattle.std.specs.Prelude.{ℕ, ◌*◌, ◌^◌, ◌%◌, ◌≤◌, ◌<◌, ◌≡◌, ◌≢◌, List, length, Result, Ok, Err}
 use Rattle.limits.specs.Limits.{most_entries, most_modulus}
 use Rattle.modular.specs.Prime.{Prime}
-use Rattle.modular.specs.Finds.{Shared}
+use Rattle.modular.specs.Finds as finds
 use Rattle.ring.specs.Ring.{Ring}
 use Rattle.ring.specs.Inverse.{Inverse}
+use Rattle.euclid.specs.declared.Shared.{Shared}
 use Rattle.pattern.specs.Singular.{Singular}
 use Rattle.pattern.specs.Smallest.{Smallest}
 use Rattle.pattern.specs.GhostPolynomial.{GhostPolynomial}
-use Rattle.invert.specs.declared.Inversion.{Inversion}
-use Rattle.invert.specs.declared.Inversion.TheVariants.{Inverted, Ghost}
-use Rattle.invert.specs.declared.Progress.{Progress}
-use Rattle.invert.specs.declared.Progress.TheVariants.{Joined, Dark}
-
--- A power that is a modulus in range.
-pub record PowerFits (p k : ℕ) : Type 0 where
-  pub positive : 0 < p
-  pub limit : p ^ k ≤ most_modulus
+use Rattle.invert.specs.Inversions.{Inversion}
+use Rattle.invert.specs.declared.Ghost.{Ghost}
 
 -- A pattern of n entries, a power of a prime, which is `top`, and an output of n entries.
 pub record PrimePower (f : List ℕ) (p k top : ℕ) (out : List ℕ) : Type 0 where
@@ -29,16 +23,19 @@ pub record PrimePower (f : List ℕ) (p k top : ℕ) (out : List ℕ) : Type 0 w
   pub long : length out ≡ length f
 
 -- The inverse modulo p^k, or the ghost polynomial modulo p, for which there is none.
-pub record PowerFound (f : List ℕ) (p k : ℕ) (out : List ℕ) (found : Bool) : Type 0 where
-  pub inverse : found ≡ true → Inverse (length f) (p ^ k) f out
-  pub ghost : found ≡ false → Singular (length f) p f × GhostPolynomial (length f) p f out
+abbrev pub PowerMeans : List ℕ → ℕ → ℕ → List ℕ → Result (Unit {0}) Shared → Type 0
+PowerMeans f p k out (Ok _) = Inverse (length f) (p ^ k) f out
+PowerMeans f p k out (Err _) = Singular (length f) p f × GhostPolynomial (length f) p f out
+
+pub record PowerFound (f : List ℕ) (p k : ℕ) (out : List ℕ) (found : Result (Unit {0}) Shared) : Type 0 where
+  pub means : PowerMeans f p k out found
 
 -- Rings g modulo q and acc modulo big, which share no factor.
 pub record Apart (g acc : List ℕ) (q big : ℕ) : Type 0 where
   pub above : 1 < q
   pub limit : q * big ≤ most_modulus
   pub some : 0 < big
-  pub apart : (d : ℕ) → Shared q big d → ⊥
+  pub apart : (d : ℕ) → finds.Shared q big d → ⊥
   pub ring : Ring (length g) q g
   pub ring' : Ring (length g) big acc
 
@@ -53,22 +50,18 @@ pub record NextPower (f : List ℕ) (p k big : ℕ) (acc : List ℕ) : Type 0 wh
   pub apart : big % p ≢ 0
   pub inverse : Inverse (length f) big f acc
 
--- The same with n entries or more lent.
-pub record NextPowerIn (f : List ℕ) (p k big : ℕ) (scratch acc : List ℕ) : Type 0 where
-  pub next : NextPower f p k big acc
-  pub room : length f ≤ length scratch
+-- The inverse modulo the product that is told, or p, which is singular, with its ghost polynomial.
+abbrev pub ProgressMeans : List ℕ → ℕ → ℕ → ℕ → List ℕ → Result ℕ Ghost → Type 0
+ProgressMeans f p k big acc (Ok next) = (next ≡ p ^ k * big) × Inverse (length f) (p ^ k * big) f acc
+ProgressMeans f p k big acc (Err g) = (g.prime ≡ p) × Singular (length f) p f × GhostPolynomial (length f) p f acc
 
-abbrev pub ProgressMeans : List ℕ → ℕ → ℕ → ℕ → List ℕ → Progress → Type 0
-ProgressMeans f p k big acc (Joined next) = (next ≡ p ^ k * big) × Inverse (length f) (p ^ k * big) f acc
-ProgressMeans f p k big acc Dark = Singular (length f) p f × GhostPolynomial (length f) p f acc
-
-pub record Progressed (f : List ℕ) (p k big : ℕ) (acc : List ℕ) (made : Progress) : Type 0 where
+pub record Progressed (f : List ℕ) (p k big : ℕ) (acc : List ℕ) (made : Result ℕ Ghost) : Type 0 where
   pub means : ProgressMeans f p k big acc made
 
 -- The inverse modulo m, or the smallest singular prime with its ghost polynomial.
 abbrev pub SolveMeans : List ℕ → ℕ → List ℕ → Inversion → Type 0
-SolveMeans f m out Inverted = Inverse (length f) m f out
-SolveMeans f m out (Ghost p) = Smallest (length f) m f p × GhostPolynomial (length f) p f out
+SolveMeans f m out (Ok _) = Inverse (length f) m f out
+SolveMeans f m out (Err g) = Smallest (length f) m f g.prime × GhostPolynomial (length f) g.prime f out
 
 pub record Solved (f : List ℕ) (m : ℕ) (out : List ℕ) (found : Inversion) : Type 0 where
   pub means : SolveMeans f m out found

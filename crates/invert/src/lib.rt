@@ -1,63 +1,49 @@
 // The call invert of document 01, and the same without its checks.
 #![tactic(auto)]
 
-ghost use Rattle.std.specs.Prelude.{◌≡◌, ◌^◌};
-ghost use Rattle.modular.specs.FactorList.{powers};
+ghost use Rattle.std.specs.Prelude.{◌≡◌};
 ghost use Rattle.answer.specs.First.{first};
 ghost use Rattle.lift.specs.Asks.{Joined};
-ghost use Rattle.pattern.specs.Factored.{factored};
+ghost use Rattle.factors.specs.Factored.{factored_of};
 ghost use Rattle.pattern.specs.Promises.{invert_order, Inverts};
-ghost use Rattle.invert.specs.Inversions.{CanInvert, Inverting, inversion_answer};
-ghost use Rattle.invert.specs.Inner.{PowerFits, PrimePower, PowerFound, Apart, NextPower, NextPowerIn, Progressed, Solved};
+ghost use Rattle.invert.specs.Inversions.{CanInvert, Inverting, of_ring};
+ghost use Rattle.invert.specs.Inner.{PrimePower, PowerFound, Apart, NextPower, Progressed, Solved};
 
-use answer::{Answer, Check};
-use checks::{check_ring, check_room};
-use euclid::{Outcome, euclid};
-use factors::check_factors;
+use answer::{Answer, Failure, Refusal};
+use checks::check_room;
+use euclid::{Shared, euclid};
+use factors::Factored;
 use lift::{join, lift};
 use limits::MOST_ENTRIES;
-use modular::inverse::{Found, inverse};
-use slices::{clear, copy, multiply};
+use modular::inverse::inverse;
+use slices::multiply;
 
-// What inverting comes to: the inverse, or the ghost of the smallest singular prime.
-#[derive(Clone, Copy)]
-pub enum Inversion {
-    Inverted,
-    Ghost(u32),
+// Why a pattern has no inverse: its smallest singular prime. The ghost stands in the output.
+#[derive(Clone, Copy, Debug, PartialEq, Eq)]
+pub struct Ghost {
+    pub prime: u32,
 }
 
-// What one prime power comes to: the product of all powers so far, or that its prime is singular.
-#[derive(Clone, Copy)]
-enum Progress {
-    Joined(u32),
-    Dark,
-}
-
-fn power(p: u32, k: u8) -> u32
-    requires { PowerFits p k }
-    ensures { result ≡ p ^ k }
-{
-    let mut q = 1;
-    let mut t = 0;
-    while t < k {
-        q *= p;
-        t += 1;
+impl Ghost {
+    // Why a call fails that inverts the pattern which is its ring `ring`.
+    pub fn of_ring(self, ring: usize) -> Failure
+        ensures { result ≡ of_ring self ring }
+    {
+        Failure::Singular {
+            ring,
+            prime: self.prime,
+        }
     }
-    q
 }
 
-// Whether out becomes the inverse of f modulo p^k, which is top; else it is the ghost polynomial modulo p.
-fn modulo_power(f: &[u32], p: u32, k: u8, top: u32, out: &mut [u32]) -> bool
+// out becomes the inverse of f modulo p^k, which is top, or the ghost polynomial modulo p.
+fn modulo_power(f: &[u32], p: u32, k: u32, top: u32, out: &mut [u32]) -> Result<(), Shared>
     requires { PrimePower f.now p k top out.old }
     ensures { PowerFound f.now p k out.new result }
 {
-    match euclid(f, p, out) {
-        Outcome::Inverted => {
-            lift(f, out, p, k as u32, top);
-            true
-        }
-        Outcome::Shared(_) => false,
-    }
+    euclid(f, p, out)?;
+    lift(f, out, p, k, top);
+    Ok(())
 }
 
 // acc, the inverse of a pattern modulo big, and g, its inverse modulo q, become one modulo q times big.
@@ -65,110 +51,67 @@ fn join_power(g: &[u32], acc: &mut [u32], q: u32, big: u32)
     requires { Apart g.now acc.old q big }
     ensures { Joined g.now acc.old q big acc.new }
 {
-    match inverse(big, q) {
-        Found::Inverse(z) => join(g, acc, q, big, z),
-        Found::Shares(_) => {}
-    }
+    // By hand: `unwrap` would leave a trap in Euclid's loop, which bench/bounds forbids.
+    let z = inverse(big, q).unwrap_or(0);
+    join(g, acc, q, big, z);
 }
 
-// The step below, with n entries or more lent for the inverse modulo p^k.
-fn next_power_in(
-    f: &[u32],
-    p: u32,
-    k: u8,
-    big: u32,
-    scratch: &mut [u32],
-    acc: &mut [u32],
-) -> Progress
-    requires { NextPowerIn f.now p k big scratch.old acc.old }
-    ensures { Progressed f.now p k big acc.new result }
-{
-    let n = f.len();
-    let g = &mut scratch[..n];
-    let q = power(p, k);
-    if modulo_power(f, p, k, q, g) {
-        join_power(g, acc, q, big);
-        return Progress::Joined(q * big);
-    }
-    copy(g, acc);
-    Progress::Dark
-}
-
-// One prime power more: acc, the inverse of f modulo big, becomes the inverse modulo p^k times big, or the ghost polynomial modulo p.
-fn next_power(f: &[u32], p: u32, k: u8, big: u32, acc: &mut [u32]) -> Progress
+// One prime power more: acc, the inverse of f modulo big, becomes the inverse modulo the product that is told, of p^k and big, or the ghost polynomial modulo p.
+fn next_power(f: &[u32], p: u32, k: u32, big: u32, acc: &mut [u32]) -> Result<u32, Ghost>
     requires { NextPower f.now p k big acc.old }
     ensures { Progressed f.now p k big acc.new result }
 {
-    let mut scratch = [0u32; MOST_ENTRIES];
-    next_power_in(f, p, k, big, &mut scratch, acc)
-}
-
-// out becomes the inverse of f modulo the number whose factor list is given, or the ghost polynomial of the smallest singular prime.
-fn solve(f: &[u32], primes: &[u32], exponents: &[u8], out: &mut [u32]) -> Inversion
-    requires { CanInvert f.now (factored (powers primes.now exponents.now) primes.now exponents.now) out.old }
-    ensures { Solved f.now (powers primes.now exponents.now) out.new result }
-{
-    clear(out);
-    let mut big = 1;
-    let mut i = 0;
-    while i < primes.len() {
-        let p = primes[i];
-        let k = exponents[i];
-        match next_power(f, p, k, big, out) {
-            Progress::Joined(next) => {
-                big = next;
-                i += 1;
-            }
-            Progress::Dark => return Inversion::Ghost(p),
+    let n = f.len();
+    let g = &mut [0u32; MOST_ENTRIES][..n];
+    let q = p.pow(k);
+    match modulo_power(f, p, k, q, g) {
+        Ok(()) => {
+            join_power(g, acc, q, big);
+            Ok(q * big)
+        }
+        Err(_) => {
+            acc.copy_from_slice(g);
+            Err(Ghost { prime: p })
         }
     }
-    Inversion::Inverted
+}
+
+// out becomes the inverse of f, or the ghost polynomial of the smallest singular prime.
+fn solve(f: &[u32], m: Factored<'_>, out: &mut [u32]) -> Result<(), Ghost>
+    requires { CanInvert f.now (factored_of m) out.old }
+    ensures { Solved f.now m.entry.modulus out.new result }
+{
+    out.fill(0);
+    let mut big = 1;
+    for (&p, &k) in m.primes.iter().zip(m.exponents) {
+        big = next_power(f, p, u32::from(k), big, out)?;
+    }
+    Ok(())
 }
 
 // Invert where nothing is left to check: out becomes the inverse, or the ghost.
-pub fn invert_legal(
-    f: &[u32],
-    m: u32,
-    primes: &[u32],
-    exponents: &[u8],
-    out: &mut [u32],
-) -> Inversion
-    requires { CanInvert f.now (factored m primes.now exponents.now) out.old }
-    ensures { Inverting f.now m out.new result }
+pub fn invert_legal(f: &[u32], m: Factored<'_>, out: &mut [u32]) -> Result<(), Ghost>
+    requires { CanInvert f.now (factored_of m) out.old }
+    ensures { Inverting f.now m.entry.modulus out.new result }
 {
-    match solve(f, primes, exponents, out) {
-        Inversion::Inverted => Inversion::Inverted,
-        Inversion::Ghost(p) => {
-            multiply(out, m / p);
-            Inversion::Ghost(p)
-        }
+    if let Err(why) = solve(f, m, out) {
+        multiply(out, m.modulus / why.prime);
+        return Err(why);
     }
+    Ok(())
 }
 
-// The answer of a call that inverts the pattern which is its ring r.
-pub fn inversion_answer(found: Inversion, ring: usize) -> Answer
-    ensures { result ≡ inversion_answer found ring }
+#[tactic(auto, using(checks::proofs::Orders::then_rest))]
+fn check_invert(f: &[u32], m: Factored<'_>, room: usize) -> Result<(), Refusal>
+    ensures { result ≡ first (invert_order f.now (factored_of m.entry) room) }
 {
-    match found {
-        Inversion::Inverted => Answer::Done,
-        Inversion::Ghost(p) => Answer::Singular { ring, prime: p },
-    }
+    m.check_rings(f, &[])?;
+    check_room(f.len(), room)
 }
 
-fn check_invert(f: &[u32], m: u32, primes: &[u32], exponents: &[u8], room: usize) -> Check
-    ensures { result ≡ first (invert_order f.now (factored m primes.now exponents.now) room) }
+pub fn invert(f: &[u32], m: Factored<'_>, out: &mut [u32]) -> Answer
+    ensures { Inverts f.now (factored_of m.entry) out.old result out.new }
 {
-    let listed = check_factors(primes, exponents, m);
-    let fits = check_room(f.len(), room);
-    check_ring(f, m, listed).or(fits)
-}
-
-pub fn invert(f: &[u32], m: u32, primes: &[u32], exponents: &[u8], out: &mut [u32]) -> Answer
-    ensures { Inverts f.now (factored m primes.now exponents.now) out.old result out.new }
-{
-    let check = check_invert(f, m, primes, exponents, out.len());
-    match check {
-        Check::Passed => inversion_answer(invert_legal(f, m, primes, exponents, out), 1),
-        Check::Refused(refusal) => Answer::Refused(refusal),
-    }
+    check_invert(f, m, out.len())?;
+    invert_legal(f, m, out).map_err(|why| why.of_ring(1))
 }

@@ -41,13 +41,6 @@ pub record Liftable (f g : List ℕ) (p k top : ℕ) : Type 0 where
   pub few : length f ≤ most_entries
   pub inverse : Inverse (length f) p f g
 
--- The same with three slices lent, each of n entries or more.
-pub record LiftableIn (f g : List ℕ) (p k top : ℕ) (first second third : List ℕ) : Type 0 where
-  pub liftable : Liftable f g p k top
-  pub first_room : length f ≤ length first
-  pub second_room : length f ≤ length second
-  pub third_room : length f ≤ length third
-
 pub record Blendable (x y first second m : ℕ) : Type 0 where
   pub positive : 0 < m
   pub word : m ≤ 2 ^ 32

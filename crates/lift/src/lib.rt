@@ -4,25 +4,20 @@
 ghost use Rattle.std.specs.Prelude.{◌≡◌, ◌+◌, ◌-◌, ◌*◌, ◌%◌, ◌^◌, min, length};
 ghost use Rattle.sums.specs.Table.{at, table};
 ghost use Rattle.ring.specs.Inverse.{Inverse};
-ghost use Rattle.lift.specs.Asks.{Lessened, Round, Rounded, Liftable, LiftableIn, Blendable, Blends, Joinable, Joined};
+ghost use Rattle.lift.specs.Asks.{Lessened, Round, Rounded, Liftable, Blendable, Blends, Joinable, Joined};
 
 use convolve::convolve;
 use limits::MOST_ENTRIES;
 use modular::power::rounds;
 use slices::remainders;
-use words::wide;
 
 // g becomes 2 g - h modulo q.
 fn twice_less(g: &mut [u32], h: &[u32], q: u32)
     requires { Lessened g.old h.now q }
     ensures { g.new ≡ table (length g.old) (λ k. (2 * at g.old k + (q - at h.now k)) % q) }
 {
-    let mut k = 0;
-    while k < h.len() {
-        let x = g[k];
-        let y = h[k];
-        g[k] = (2 * x + (q - y)) % q;
-        k += 1;
+    for (k, y) in h.iter().enumerate() {
+        g[k] = (2 * g[k] + (q - *y)) % q;
     }
 }
 
@@ -48,39 +43,7 @@ fn round(
 fn squared(q: u32, top: u32) -> u32
     ensures { result ≡ min (q * q) top }
 {
-    let square = wide(q) * wide(q);
-    if square < wide(top) {
-        return square as u32;
-    }
-    top
-}
-
-// The rounds. Three slices of n entries or more are lent for what lies between.
-fn lift_in(
-    f: &[u32],
-    g: &mut [u32],
-    p: u32,
-    k: u32,
-    top: u32,
-    first: &mut [u32],
-    second: &mut [u32],
-    third: &mut [u32],
-)
-    requires { LiftableIn f.now g.old p k top first.old second.old third.old }
-    ensures { Inverse (length f.now) (p ^ k) f.now g.new }
-{
-    let n = f.len();
-    let pattern = &mut first[..n];
-    let square = &mut second[..n];
-    let product = &mut third[..n];
-    let c = rounds(k);
-    let mut q = p;
-    let mut t = 0;
-    while t < c {
-        q = squared(q, top);
-        round(f, g, q, pattern, square, product);
-        t += 1;
-    }
+    q.saturating_mul(q).min(top)
 }
 
 // g, the inverse of f modulo p, becomes the inverse modulo p^k, which is top.
@@ -88,17 +51,23 @@ pub fn lift(f: &[u32], g: &mut [u32], p: u32, k: u32, top: u32)
     requires { Liftable f.now g.old p k top }
     ensures { Inverse (length f.now) (p ^ k) f.now g.new }
 {
-    let mut first = [0u32; MOST_ENTRIES];
-    let mut second = [0u32; MOST_ENTRIES];
-    let mut third = [0u32; MOST_ENTRIES];
-    lift_in(f, g, p, k, top, &mut first, &mut second, &mut third);
+    let n = f.len();
+    let pattern = &mut [0u32; MOST_ENTRIES][..n];
+    let square = &mut [0u32; MOST_ENTRIES][..n];
+    let product = &mut [0u32; MOST_ENTRIES][..n];
+    let turns = rounds(k);
+    let mut q = p;
+    for _t in 0..turns {
+        q = squared(q, top);
+        round(f, g, q, pattern, square, product);
+    }
 }
 
 fn blended(x: u32, y: u32, first: u64, second: u64, m: u64) -> u32
     requires { Blendable x y first second m }
     ensures { result ≡ (first * x + second * y) % m }
 {
-    ((first * wide(x) + second * wide(y)) % m) as u32
+    ((first * u64::from(x) + second * u64::from(y)) % m) as u32
 }
 
 // Each entry of acc becomes first times that of g and second times its own, modulo m.
@@ -106,12 +75,8 @@ fn blend(g: &[u32], acc: &mut [u32], first: u64, second: u64, m: u64)
     requires { Blends g.now acc.old first second m }
     ensures { acc.new ≡ table (length g.now) (λ k. (first * at g.now k + second * at acc.old k) % m) }
 {
-    let mut k = 0;
-    while k < g.len() {
-        let x = g[k];
-        let y = acc[k];
-        acc[k] = blended(x, y, first, second, m);
-        k += 1;
+    for (k, x) in g.iter().enumerate() {
+        acc[k] = blended(*x, acc[k], first, second, m);
     }
 }
 
@@ -120,7 +85,7 @@ pub fn join(g: &[u32], acc: &mut [u32], q: u32, big: u32, z: u32)
     requires { Joinable g.now acc.old q big z }
     ensures { Joined g.now acc.old q big acc.new }
 {
-    let m = wide(q) * wide(big);
-    let first = wide(z) * wide(big);
+    let m = u64::from(q) * u64::from(big);
+    let first = u64::from(z) * u64::from(big);
     blend(g, acc, first, m + 1 - first, m);
 }

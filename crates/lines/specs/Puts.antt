@@ -1,6 +1,6 @@
 -- What the functions of this crate ask of a lent buffer, and what they leave in it.
 use Rattle.std.specs.Prelude.{ℕ, ◌+◌, ◌^◌, ◌≤◌, ◌<◌, List, [], ◌∷◌, length}
-use Rattle.octets.specs.Put.{PutsBytes}
+use Rattle.lines.specs.Put.{PutsBytes}
 use Rattle.lines.specs.Items.{Item, word, number, Spells}
 
 -- The items stand in the buffer from offset o up to `end`; the rest is as it came.
@@ -27,8 +27,3 @@ pub record Room (items : List Item) (o : ℕ) (old : List ℕ) : Type 0 where
   pub some : 0 < places
   pub low : Low places items
   pub inside : o + most places items ≤ length old
-
--- A digit has room at offset o.
-pub record DigitFits (digit : ℕ) (o : ℕ) (old : List ℕ) : Type 0 where
-  pub low : digit < 10
-  pub inside : o < length old

@@ -1,82 +1,87 @@
-// Lines of words and numbers, written into a lent buffer. Each function writes from an offset on and answers the offset after
-// the last byte that it wrote.
+// Lines of words and numbers, written into a lent buffer.
 #![tactic(auto)]
 
-ghost use Rattle.std.specs.Prelude.{◌≡◌, [], ◌∷◌};
-ghost use Rattle.octets.specs.Put.{PutsBytes};
-ghost use Rattle.lines.specs.Decimal.{glyph};
+ghost use Rattle.std.specs.Prelude.{◌≡◌, ◌≤◌, [], ◌∷◌, length};
 ghost use Rattle.lines.specs.Items.{number, numbers};
 ghost use Rattle.lines.specs.Items.{word as a_word};
 ghost use Rattle.lines.specs.Lines.{after, line};
-ghost use Rattle.lines.specs.Puts.{Room, Puts, DigitFits};
 
-use octets::{put_byte, put_bytes};
-use words::wide;
+use itoa::Buffer;
 
-pub fn put_word(text: &mut [u8], at: usize, word: &[u8]) -> usize
-    requires { Room (a_word word.now ∷ []) at text.old }
-    ensures { Puts (a_word word.now ∷ []) at text.old text.new result }
-{
-    put_bytes(text, at, word)
+// A lent buffer, and where the text in it ends.
+#[derive(Drop)]
+pub struct Text<'a> {
+    buffer: &'a mut [u8],
+    end: usize,
+    ghost inside: { end ≤ length buffer.now },
 }
 
-fn put_digit(text: &mut [u8], at: usize, digit: u64) -> usize
-    requires { DigitFits digit at text.old }
-    ensures { PutsBytes (glyph digit ∷ []) at text.old text.new result }
-{
-    put_byte(text, at, b'0' + digit as u8)
-}
+impl<'a> Text<'a> {
+    ghost use Rattle.lines.specs.Writes.{Fits, Writes};
 
-fn put_digits(text: &mut [u8], at: usize, x: u64) -> usize
-    requires { Room (number x ∷ []) at text.old }
-    ensures { Puts (number x ∷ []) at text.old text.new result }
-{
-    if x < 10 {
-        return put_digit(text, at, x);
+    // The empty text, at the start of the buffer.
+    pub fn new(buffer: &'a mut [u8]) -> Text<'a>
+        ensures same_buffer { result.buffer.ghost_name ≡ buffer.entry.ghost_name }
+        ensures same_bytes { result.buffer.now ≡ buffer.old }
+        ensures empty { result.end ≡ 0 }
+    {
+        Text { buffer, end: 0 }
     }
-    let end = put_digits(text, at, x / 10);
-    put_digit(text, end, x % 10)
-}
 
-// A blank, and the number.
-pub fn put_number(text: &mut [u8], at: usize, x: u64) -> usize
-    requires { Room (after (number x ∷ [])) at text.old }
-    ensures { Puts (after (number x ∷ [])) at text.old text.new result }
-{
-    let start = put_word(text, at, b" ");
-    put_digits(text, start, x)
-}
-
-// The entries of a ring, each after a blank.
-pub fn put_ring(text: &mut [u8], at: usize, ring: &[u32]) -> usize
-    requires { Room (after (numbers ring.now)) at text.old }
-    ensures { Puts (after (numbers ring.now)) at text.old text.new result }
-{
-    let mut end = at;
-    let mut i = 0;
-    while i < ring.len() {
-        end = put_number(text, end, wide(ring[i]));
-        i += 1;
+    // Where the text ends.
+    pub fn end(&self) -> usize
+        ensures { result ≡ self.now.end }
+    {
+        self.end
     }
-    end
-}
 
-// The name and the number, each after a blank.
-pub fn put_named(text: &mut [u8], at: usize, name: &[u8], x: u64) -> usize
-    requires { Room (after (a_word name.now ∷ number x ∷ [])) at text.old }
-    ensures { Puts (after (a_word name.now ∷ number x ∷ [])) at text.old text.new result }
-{
-    let start = put_word(text, at, b" ");
-    let end = put_word(text, start, name);
-    put_number(text, end, x)
-}
+    pub fn word(&mut self, word: &[u8])
+        requires { Fits (a_word word.now ∷ []) self.old }
+        ensures { Writes (a_word word.now ∷ []) self.old self.new }
+    {
+        let end = self.end + word.len();
+        self.buffer[self.end..end].copy_from_slice(word);
+        self.end = end;
+    }
 
-// A name, the entries of a ring, and the line's end.
-pub fn put_line(text: &mut [u8], at: usize, name: &[u8], ring: &[u32]) -> usize
-    requires { Room (line (a_word name.now) (numbers ring.now)) at text.old }
-    ensures { Puts (line (a_word name.now) (numbers ring.now)) at text.old text.new result }
-{
-    let start = put_word(text, at, name);
-    let end = put_ring(text, start, ring);
-    put_word(text, end, b"\n")
+    // A blank, and the number.
+    pub fn number(&mut self, x: u64)
+        requires { Fits (after (number x ∷ [])) self.old }
+        ensures { Writes (after (number x ∷ [])) self.old self.new }
+    {
+        let mut buffer = Buffer::new();
+        let digits = buffer.format(x).as_bytes();
+        self.word(b" ");
+        self.word(digits);
+    }
+
+    // The entries of a ring, each after a blank.
+    pub fn ring(&mut self, ring: &[u32])
+        requires { Fits (after (numbers ring.now)) self.old }
+        ensures { Writes (after (numbers ring.now)) self.old self.new }
+    {
+        for x in ring {
+            self.number(u64::from(*x));
+        }
+    }
+
+    // The name and the number, each after a blank.
+    pub fn named(&mut self, name: &[u8], x: u64)
+        requires { Fits (after (a_word name.now ∷ number x ∷ [])) self.old }
+        ensures { Writes (after (a_word name.now ∷ number x ∷ [])) self.old self.new }
+    {
+        self.word(b" ");
+        self.word(name);
+        self.number(x);
+    }
+
+    // A name, the entries of a ring, and the line's end.
+    pub fn line(&mut self, name: &[u8], ring: &[u32])
+        requires { Fits (line (a_word name.now) (numbers ring.now)) self.old }
+        ensures { Writes (line (a_word name.now) (numbers ring.now)) self.old self.new }
+    {
+        self.word(name);
+        self.ring(ring);
+        self.word(b"\n");
+    }
 }

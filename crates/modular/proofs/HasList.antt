@@ -6,7 +6,7 @@ use mathlib.Core.Logic.{◌≢◌}
 use mathlib.Core.List.{List, [], ◌∷◌}
 use native.Mathlib.Omega.{arith}
 use native.Mathlib.Decide.{ℕ_discrete, dec_lt}
-use native.Mathlib.Nat.{mod_self, div_self, div-add-mod', pow-zero, pow-suc, pow-le-pow_right, mul-one, mul_comm, mul_assoc, mul-mod_right, mul-le-mul_left, dvd_trans, mod-eq-zero_of_dvd, dvd_of_mod-eq-zero}
+use native.Mathlib.Nat.{mod_self, div-add-mod', pow-zero, pow-suc, pow-le-pow_right, mul-one, mul_comm, mul_assoc, mul-mod_right, mul-le-mul_left, dvd_trans, mod-eq-zero_of_dvd, dvd_of_mod-eq-zero}
 use Rattle.modular.specs.Prime.{Prime}
 use Rattle.modular.specs.FactorList.{Rising, powers, FactorList}
 use Rattle.modular.proofs.Trial.{Free, free_prime}
@@ -45,7 +45,7 @@ least_divisor m h = least_from m m 2 (omega arith) h (omega arith) λ j a b r. o
 
 least_prime : {m p : ℕ} → LeastDivisor m p → Prime p
 least_prime {m} {p} s =
-    free_prime p p s.two (omega (arith, s.two, div_self {n = p} (omega (arith, s.two)))) λ j a b r. s.least j a b (divides_trans j p m r s.divides)
+    free_prime p p s.two (omega (arith, s.two, mul-le-mul_left p s.two)) λ j a b r. s.least j a b (divides_trans j p m r s.divides)
 
 -- ---- a factor divided out as often as it goes
 

@@ -6,7 +6,7 @@ use mathlib.Core.Logic.{◌↔◌, ◌≢◌}
 use mathlib.Core.Bool.{Bool, true, not, and-eq-true_iff}
 use native.Mathlib.Omega.{arith}
 use native.Mathlib.Decide.{ℕ_discrete}
-use native.Mathlib.Nat.{div_self}
+use native.Mathlib.Nat.{mul-le-mul_left}
 use borrow.Author.Tests.{leb-true, eqb-false, not-true, le-leb, ne_eqb}
 use lib.Dec.{eqb, leb}
 use Rattle.sums.proofs.Tests.{one_saying}
@@ -35,7 +35,7 @@ prime_exactly p = Iff.trans (and-eq-true_iff (leb 2 p) (undivided? p (p - 2))) (
     is : (leb 2 p ≡ true) × (undivided? p (p - 2) ≡ true) → Prime p
     is (t, u) =
         let two = leb-true 2 p t in
-        free_prime p p two (omega (arith, div_self {n = p} (omega arith))) λ j a b e. (undivided_exactly p (p - 2)).0 u j a (omega arith) e
+        free_prime p p two (omega (arith, mul-le-mul_left p two)) λ j a b e. (undivided_exactly p (p - 2)).0 u j a (omega arith) e
 
     told : Prime p → (leb 2 p ≡ true) × (undivided? p (p - 2) ≡ true)
     told pr = (le-leb 2 p pr.two, (undivided_exactly p (p - 2)).1 λ j a b e. composite p j a (omega (arith, pr.two)) e pr)

@@ -6,7 +6,7 @@ use mathlib.Core.Logic.{◌≢◌, ◌⊎◌, inl, inr, ⊎_elim}
 use mathlib.Core.Bool.{true, false, false≢true}
 use native.Mathlib.Omega.{arith}
 use native.Mathlib.Decide.{dec_lt, ℕ_discrete}
-use native.Mathlib.Nat.{dvd_trans, mod-eq-zero_of_dvd, dvd_of_mod-eq-zero, mod-zero, le_of_dvd, le-div_iff_mul-le, div-lt_iff_lt-mul, mul-le-mul_left, mul-le-mul_right, mul-mod_right, div-add-mod', lt_of_mul-lt-mul_right}
+use native.Mathlib.Nat.{dvd_trans, mod-eq-zero_of_dvd, dvd_of_mod-eq-zero, mod-zero, le_of_dvd, mul-le-mul, mul-le-mul_left, mul-mod_right, div-add-mod', lt_of_mul-lt-mul_right}
 use Rattle.modular.specs.Prime.{Prime, TellsPrime}
 
 -- Nothing from 2 to below d divides p.
@@ -25,11 +25,14 @@ free_next p d odd o free at-d k a b e = elim (dec_lt k d) [
   ]
 ]
 
--- A divisor that is tried is at most a third of p.
-pub tried_low : (p d : ℕ) → 3 ≤ d → d ≤ p / d → 3 * d ≤ p
-tried_low p d h l = omega (arith, (le-div_iff_mul-le {k = d} (omega arith)).0 l, mul-le-mul_right d h)
+-- A divisor up to the square root is below p, and past the root its square is above p.
+pub below_root : (p d r : ℕ) → 3 ≤ d → d ≤ r → r * r ≤ p → d < p
+below_root p d r h l s = omega (arith, mul-le-mul {n₁ = 3} {m₁ = d} {n₂ = r} {m₂ = r} (omega arith) l)
 
-module _ (p d : ℕ) (two : 2 ≤ p) (l : p / d < d) (free : Free p d) where
+pub past_root : (p d r : ℕ) → p < (r + 1) * (r + 1) → r < d → p < d * d
+past_root p d r s l = let h : r + 1 ≤ d = omega arith in omega (arith, mul-le-mul h h)
+
+module _ (p d : ℕ) (two : 2 ≤ p) (l : p < d * d) (free : Free p d) where
   -- k divides p, and q is the other factor.
   other : (k q : ℕ) → q * k ≡ p → d ≤ k → k ≡ p
   other k q e g = elim (dec_lt 1 q) [
@@ -38,7 +41,7 @@ module _ (p d : ℕ) (two : 2 ≤ p) (l : p / d < d) (free : Free p d) where
   ]
     where
       small : q < d
-      small = lt_of_mul-lt-mul_right d (omega (arith, (div-lt_iff_lt-mul {k = d} {x = p} {y = d} (omega arith)).0 l, mul-le-mul_left q g))
+      small = lt_of_mul-lt-mul_right d (omega (arith, mul-le-mul_left q g))
 
       zero : (1 < q → ⊥) → (q ≡ 1 → ⊥) → q ≡ 0
       zero h o = omega arith

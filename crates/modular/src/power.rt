@@ -7,5 +7,5 @@ pub fn rounds(k: u32) -> u32
     if k <= 1 {
         return 0;
     }
-    32 - u32::leading_zeros(k - 1)
+    32 - (k - 1).leading_zeros()
 }

@@ -10,14 +10,10 @@ pub fn is_prime(p: u32) -> bool
     if p % 2 == 0 {
         return p == 2;
     }
-    let mut d = 3;
-    let mut q = p / 3;
-    while d <= q {
-        if d * q == p {
+    for d in (3..=p.isqrt()).step_by(2) {
+        if p % d == 0 {
             return false;
         }
-        d += 2;
-        q = p / d;
     }
     true
 }

@@ -1,6 +1,7 @@
 -- The program never prints 2, 3, 7, 8 or 9: whatever the sheet, a refusal that is shown has another number. The reader refuses with 20 to 24 alone. Of an
 -- accepted sheet the checks 1 to 6 and 10 to 13 are made; a pattern part has at most 4,096 bytes, so that 2 finds nothing, and the readings have the pattern's
 -- length, so that 3 finds nothing. Shown check by check: what each of them can refuse with. Assumes nothing.
+use Rattle.std.specs.Prelude.{Option as std-Option, Some, None, IfSome, option_map, Result, Ok, Err}
 use Prim.Native.Nat.{ℕ, zero, suc, ◌+◌, ◌-◌, ◌/◌, ◌≤◌}
 use mathlib.Core.Path.{◌≡◌, refl, sym, ap, subst, ◌∙◌}
 use mathlib.Core.Logic.{◌≢◌}
@@ -21,24 +22,24 @@ use Rattle.answer.specs.Numbers.{refusal_row}
 use Rattle.answer.specs.Refuse.{refuse_if}
 use Rattle.answer.specs.declared.Case.{Case}
 use Rattle.answer.specs.declared.Case.TheVariants.{Empty, Modulus, Factors, Coefficient, Exponent, Prime, Order, Product, Cut, Tag, Length, Missing, Version}
-use Rattle.answer.specs.declared.Check.{Check}
-use Rattle.answer.specs.declared.Check.TheVariants.{Passed, Refused}
+use Rattle.answer.specs.Check.{Check}
 use Rattle.answer.specs.declared.Refusal.{Refusal}
 use Rattle.answer.proofs.Firsts.{passed_refused, neither}
 use Rattle.checks.specs.Checks.{empty, large, mismatch, modulus, first_high, coefficient}
 use Rattle.checks.specs.Factors.{list_sizes, entries_order, factors_order, factors}
 use Rattle.checks.specs.Order.{order}
-use Rattle.pattern.specs.Factored.{Factored}
-use Rattle.pattern.specs.Promises.{listed_order}
-use Rattle.fields.specs.Fields.{Field, tag_at, length_at, field_at, next_at, last_tag, version_of}
+use Rattle.factors.specs.Factored.{Factored, listed_order}
+use Rattle.fields.specs.Fields.{Field, tag_at, length_at, field_at, next_at, last_tag, version_of, bytes_of}
 use Rattle.fields.specs.Tags.{tags, known_version, fit, lacks}
 use Rattle.fields.specs.Checks.{is_unknown, is_wrong, above_tags, value_order, field_order, end_check}
 use Rattle.fields.specs.Walk.{Reading, accepted, refused as refused-reading, unless, walk, reading}
-use Rattle.sheet.specs.Sheets.{told, sheet_of, bytes_of}
+use Rattle.sheet.specs.Sheets.{told, sheet_of}
 use Rattle.sheet.specs.Entries.{number_of, entries_of}
-use Rattle.sheet.specs.Held.{Held, held, given}
-use Rattle.sheet.proofs.Parts.{sheet_inside, sheet_sized}
-use Rattle.page.specs.Outcome.{Outcome, refused, singular, inverted, listed, ring_2, held_order, AfterReading, Comes}
+use Rattle.sheet.specs.Held.{Held, held, held_by, given}
+use Rattle.sheet.proofs.Parts.{Lies, sheet_inside, sheet_sized}
+use Rattle.fields.specs.declared.Part.{Part}
+use Rattle.sheet.specs.declared.Sheet.{Sheet}
+use Rattle.page.specs.Outcome.{Outcome, refused, singular, inverted, listed, ring_2, held_order, Shown, AfterReading, Comes}
 use Rattle.page.proofs.Parts.{part_long}
 
 -- ---- the cases that are printed
@@ -58,12 +59,12 @@ numbers k e =
     (eqb-false k 2 x₂.0, eqb-false k 3 x₃.0, eqb-false k 7 x₇.0, eqb-false k 8 x₈.0, eqb-false k 9 x₈.1)
 
 abbrev Named : Check → Type 0
-Named Passed = Unit {0}
-Named (Refused r) = Printed r.case
+Named (Ok _) = Unit {0}
+Named (Err r) = Printed r.case
 
 -- What a check, each of several, the reader and an outcome can refuse with.
 record Only (c : Check) : Type 0 where
-  cases : (r : Refusal) → c ≡ Refused r → Printed r.case
+  cases : (r : Refusal) → c ≡ Err r → Printed r.case
 
 abbrev Each : List Check → Type 0
 Each [] = Unit {0}
@@ -78,10 +79,10 @@ OnlyShown (refused r) = Printed r.case
 OnlyShown (singular prime ghost) = Unit {0}
 OnlyShown (inverted inverse counts) = Unit {0}
 
-only_passed : {c : Check} → c ≡ Passed → Only c
+only_passed : {c : Check} → c ≡ Ok tt → Only c
 only_passed e = record { cases = λ r d. absurd (passed_refused e d) }
 
-only_refused : {r : Refusal} → Printed r.case → Only (Refused r)
+only_refused : {r : Refusal} → Printed r.case → Only (Err r)
 only_refused p = record { cases = λ r e. subst Named e p }
 
 only_if : (b : Bool) (c : Case) (ring place : ℕ) → Printed c → Only (refuse_if b c ring place)
@@ -89,8 +90,8 @@ only_if true c ring place p = only_refused p
 only_if false c ring place p = only_passed refl
 
 only_or : (c d : Check) → Only c → Only d → Only (or c d)
-only_or Passed d a b = b
-only_or (Refused r) d a b = a
+only_or (Ok _) d a b = b
+only_or (Err r) d a b = a
 
 only_first : (l : List Check) → Each l → Only (first l)
 only_first [] a = only_passed refl
@@ -99,8 +100,8 @@ only_first (c ∷ l) a = only_or c (first l) a.0 (only_first l a.1)
 -- ---- the reader
 
 only_unless : (c : Check) (x : Reading) → Only c → OnlyRead x → OnlyRead (unless c x)
-only_unless Passed x a b = b
-only_unless (Refused r) x a b = a.cases r refl
+only_unless (Ok _) x a b = b
+only_unless (Err r) x a b = a.cases r refl
 
 only_cond : (b : Bool) (x y : Reading) → OnlyRead x → OnlyRead y → OnlyRead (cond b x y)
 only_cond true x y a b = a
@@ -138,13 +139,16 @@ module _ (s : List ℕ) where
   only_walk zero come o = only_end come
   only_walk (suc most) come o = only_cond (leb (length s) o) _ _ (only_end come) (only_unless (first (field_order s come o)) _ (only_field come o) (only_walk most (field_at s o ∷ come) (next_at s o)))
 
-  only_verdict : Only (sheet_of s).verdict
+  only_reading : OnlyRead (reading s)
   unfolding reading
-  only_verdict = by_reading (reading s) (only_walk (length s) [] 0)
-    where
-      by_reading : (x : Reading) → OnlyRead x → Only (told s x).verdict
-      by_reading (accepted come) a = only_passed refl
-      by_reading (refused-reading r) a = only_refused a
+  only_reading = only_walk (length s) [] 0
+
+  only_told : (x : Reading) → OnlyRead x → {r : Refusal} → told s x ≡ Err r → Printed r.case
+  only_told (accepted come) a e = cc
+  only_told (refused-reading q) a {r} e = let same : q ≡ r = cc in subst (λ (k : Refusal). Printed k.case) same a
+
+  only_sheet : {r : Refusal} → sheet_of s ≡ Err r → Printed r.case
+  only_sheet e = only_told (reading s) only_reading e
 
 -- ---- an accepted sheet
 
@@ -196,29 +200,38 @@ only_order f (some y) M few long =
 entries_long : (part : List ℕ) → length (entries_of part) ≡ length part / entry_bytes
 entries_long part = length-table (length part / entry_bytes) (number_of entry_bytes part)
 
-given_long : (present : Bool) (n : ℕ) (y : List ℕ) → (present ≡ true → length y ≡ n) → Long n (given present y)
-given_long true n y h = h refl
-given_long false n y h = tt
+given_long : (n : ℕ) (part : std-Option Part) (entries : Part → List ℕ) → IfSome part (λ part. length (entries part) ≡ n) → Long n (given (option_map entries part))
+given_long n None entries h = tt
+given_long n (Some part) entries h = h
 
-only_held : (s : List ℕ) → Only (first (held_order (held s (sheet_of s))))
-only_held s =
-    let sheet = sheet_of s in
-    let inside = sheet_inside s refl in
-    let sized = sheet_sized s refl in
+-- Readings that have come have as many entries as the pattern.
+readings_long : (s : List ℕ) (n : ℕ) (part : std-Option Part) → IfSome part (Lies s) → IfSome part (λ part. part.len ≡ n) → IfSome part (λ part. length (entries_of (bytes_of s part)) ≡ n / entry_bytes)
+readings_long s n None lies same = tt
+readings_long s n (Some part) lies same = entries_long (bytes_of s part) ∙ ap (λ (n : ℕ). n / entry_bytes) (part_long s part lies ∙ same)
+
+only_held : (s : List ℕ) {sheet : Sheet} → sheet_of s ≡ Ok sheet → Only (first (held_order (held s sheet)))
+only_held s {sheet} e =
+    let inside = sheet_inside s e in
+    let sized = sheet_sized s e in
     let f = bytes_of s sheet.pattern in
-    let y = bytes_of s sheet.readings in
-    let f-long = part_long s sheet.pattern inside.pattern in
-    let y-long = part_long s sheet.readings inside.readings in
-    only_order (entries_of f) (given sheet.readings.present (entries_of y)) (listed (held s sheet)) (omega (arith, entries_long f, f-long, sized.small))
-    (given_long sheet.readings.present (length (entries_of f)) (entries_of y) (λ e. entries_long y ∙ ap (λ (n : ℕ). n / entry_bytes) (y-long ∙ sized.same e ∙ sym f-long) ∙ sym (entries_long f)))
+    let f-long = entries_long f ∙ ap (λ (n : ℕ). n / entry_bytes) (part_long s sheet.pattern inside.pattern) in
+    let y = λ (part : Part). entries_of (bytes_of s part) in
+    only_order (entries_of f) (given (option_map y sheet.readings)) (listed (held s sheet)) (omega (arith, f-long, sized.small))
+    (rw f-long (given_long (sheet.pattern.len / entry_bytes) sheet.readings y (readings_long s sheet.pattern.len sheet.readings inside.readings sized.same)))
 
 -- ---- the whole
 
-only_after : (verdict : Check) (h : Held) (x : Outcome) → Only verdict → Only (first (held_order h)) → AfterReading verdict h x → OnlyShown x
-only_after (Refused r) h x a b e = subst OnlyShown (sym e) (a.cases r refl)
-only_after Passed h (refused r) a b e = b.cases r e
-only_after Passed h (singular prime ghost) a b e = tt
-only_after Passed h (inverted inverse counts) a b e = tt
+only_outcome : (h : Held) (x : Outcome) → Only (first (held_order h)) → Shown h x → OnlyShown x
+only_outcome h (refused r) a e = a.cases r e
+only_outcome h (singular prime ghost) a e = tt
+only_outcome h (inverted inverse counts) a e = tt
+
+only_comes : (s : List ℕ) (x : Outcome) → Comes s x → OnlyShown x
+only_comes s x = by_sheet (sheet_of s) refl
+  where
+    by_sheet : (v : Result Sheet Refusal) → sheet_of s ≡ v → AfterReading (held_by s v) x → OnlyShown x
+    by_sheet (Err r) e a = subst OnlyShown (sym a) (only_sheet s e)
+    by_sheet (Ok sheet) e a = only_outcome (held s sheet) x (only_held s e) a
 
 pub never_printed : (s : List ℕ) (r : Refusal) → Comes s (refused r) → let k = (refusal_row r.case).number in (k ≢ 2) × (k ≢ 3) × (k ≢ 7) × (k ≢ 8) × (k ≢ 9)
-never_printed s r e = numbers (refusal_row r.case).number (only_after (sheet_of s).verdict (held s (sheet_of s)) (refused r) (only_verdict s) (only_held s) e)
+never_printed s r e = numbers (refusal_row r.case).number (only_comes s (refused r) e)

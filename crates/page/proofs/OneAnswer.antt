@@ -1,5 +1,6 @@
 -- One text for each sheet: whatever fits comes to the same outcome, which has one page, which is spelled in one way. There is one refusal, one inverse, one
 -- ring of counts, one smallest singular prime and one ghost, and never both an inverse and a singular prime. Assumes nothing.
+use Rattle.std.specs.Prelude.{Result, Ok, Err}
 use Prim.Native.Nat.{ℕ}
 use mathlib.Core.Path.{◌≡◌, refl, sym, ap, subst, ◌∙◌}
 use mathlib.Core.List.{List, []}
@@ -10,8 +11,7 @@ use lib.ListN.{length}
 use Rattle.ring.specs.Inverse.{Inverse}
 use Rattle.ring.proofs.Inverses.{inverse_unique}
 use Rattle.answer.specs.First.{first}
-use Rattle.answer.specs.declared.Check.{Check}
-use Rattle.answer.specs.declared.Check.TheVariants.{Passed, Refused}
+use Rattle.answer.specs.Check.{Check}
 use Rattle.answer.specs.declared.Refusal.{Refusal}
 use Rattle.answer.proofs.Firsts.{passed_refused}
 use Rattle.pattern.specs.Sent.{sent}
@@ -24,15 +24,14 @@ use Rattle.pattern.proofs.Ghosts.{one_ghost}
 use Rattle.pattern.proofs.Unmixing.{one_unmixed}
 use Rattle.lines.specs.Puts.{Puts}
 use Rattle.lines.proofs.Putting.{one-put}
-use Rattle.sheet.specs.Sheets.{sheet_of}
-use Rattle.sheet.specs.Held.{Held, held}
-use Rattle.page.specs.Outcome.{Outcome, refused, singular, inverted, listed, ring_2, held_order, CountsBehind, Shown, AfterReading, Comes}
-use Rattle.page.specs.Page.{page}
+use Rattle.sheet.specs.Held.{Held, held_of}
+use Rattle.page.specs.Outcome.{Outcome, refused, singular, inverted, listed, ring_2, held_order, CountsBehind, Shown, AfterReading}
+use Rattle.page.specs.Page.{page_of}
 use Rattle.page.specs.Report.{text_room, Displays, Reports}
 
 -- ---- one outcome
 
-same_refusal : {c : Check} {r r' : Refusal} → c ≡ Refused r → c ≡ Refused r' → r ≡ r'
+same_refusal : {c : Check} {r r' : Refusal} → c ≡ Err r → c ≡ Err r' → r ≡ r'
 same_refusal e d = cc
 
 same_counts : (m : ℕ) (f : List ℕ) (y c c' : Option (List ℕ)) → CountsBehind m f y c → CountsBehind m f y c' → c ≡ c'
@@ -44,10 +43,10 @@ same_counts m f (some y) (some c) none a b = absurd b
 same_counts m f (some y) (some c) (some c') a b = ap some (one_unmixed m (sent f y) a b)
 
 module _ (h : Held) where
-  all : first (held_order h) ≡ Passed → Granted h.pattern (ring_2 h.readings) (listed h)
+  all : first (held_order h) ≡ Ok tt → Granted h.pattern (ring_2 h.readings) (listed h)
   all e = (granted h.pattern (ring_2 h.readings) (listed h) [] e).0
 
-  never_both : {prime : ℕ} {g : List ℕ} → first (held_order h) ≡ Passed → Smallest (length h.pattern) h.modulus h.pattern prime → Inverse (length h.pattern) h.modulus h.pattern g → ⊥
+  never_both : {prime : ℕ} {g : List ℕ} → first (held_order h) ≡ Ok tt → Smallest (length h.pattern) h.modulus h.pattern prime → Inverse (length h.pattern) h.modulus h.pattern g → ⊥
   never_both {g = g} e s i = smallest_none (length h.pattern) (all e).legal.some h.pattern refl s (record { inverse = g; is = i })
 
   one_outcome : (x y : Outcome) → Shown h x → Shown h y → x ≡ y
@@ -66,22 +65,18 @@ module _ (h : Held) where
       let n = length h.pattern in
       rw (inverse_unique n h.modulus h.pattern i i', same_counts h.modulus h.pattern h.readings c c' k k')
 
-after_one : (verdict : Check) (h : Held) {x y : Outcome} → AfterReading verdict h x → AfterReading verdict h y → x ≡ y
-after_one (Refused r) h a b = a ∙ sym b
-after_one Passed h {x} {y} a b = one_outcome h x y a b
-
-one_comes : (s : List ℕ) {x y : Outcome} → Comes s x → Comes s y → x ≡ y
-one_comes s a b = after_one (sheet_of s).verdict (held s (sheet_of s)) a b
+one_comes : (found : Result Held Refusal) {x y : Outcome} → AfterReading found x → AfterReading found y → x ≡ y
+one_comes (Err r) a b = a ∙ sym b
+one_comes (Ok h) {x} {y} a b = one_outcome h x y a b
 
 -- ---- one text
 
-one_display : (s : List ℕ) {old new new' : List ℕ} {end end' : ℕ} → Displays (Comes s) (held s (sheet_of s)) old new end → Displays (Comes s) (held s (sheet_of s)) old new' end' → (end ≡ end') × (new ≡ new')
-one_display s {old} {new} {end = end} a b =
-    let h = held s (sheet_of s) in
-    one-put (subst (λ (x : Outcome). Puts (page (length h.pattern) h.modulus x) 0 old new end) (one_comes s a.fits b.fits) a.puts) b.puts
+one_display : (found : Result Held Refusal) {old new new' : List ℕ} {end end' : ℕ} → Displays found old new end → Displays found old new' end' → (end ≡ end') × (new ≡ new')
+one_display found {old} {new} {end = end} a b =
+    one-put (subst (λ (x : Outcome). Puts (page_of found x) 0 old new end) (one_comes found a.fits b.fits) a.puts) b.puts
 
 pub one_report : (s old : List ℕ) {new new' : List ℕ} {end end' : ℕ} → Reports s old new end → Reports s old new' end' → (end ≡ end') × (new ≡ new')
 one_report s old a b = elim (dec_le text_room (length old)) [
-  | yes h ↦ one_display s (a.prints h) (b.prints h)
+  | yes h ↦ one_display (held_of s) (a.prints h) (b.prints h)
   | no h ↦ let x = a.leaves (omega arith) in let y = b.leaves (omega arith) in (x.0 ∙ sym y.0, x.1 ∙ sym y.1)
 ]

@@ -5,7 +5,7 @@ use mathlib.Core.List.{List}
 use native.Mathlib.Omega.{arith}
 use lib.ListN.{length, drop, length-take, length-drop}
 use Rattle.fields.specs.declared.Part.{Part}
-use Rattle.sheet.specs.Sheets.{bytes_of}
+use Rattle.fields.specs.Fields.{bytes_of}
 
 pub part_long : (s : List ℕ) (part : Part) → part.from + part.len ≤ length s → length (bytes_of s part) ≡ part.len
 part_long s part h = omega (arith, length-take part.len (drop part.from s), length-drop part.from s)

@@ -1,20 +1,17 @@
 -- What the program unmix comes to (document 01, The pattern sheet): "then `inverse` and the n entries, or `singular p ghost` and the n entries; then,
 -- with readings and an inverse, `counts` and the n entries." A refusal comes instead.
-use Rattle.std.specs.Prelude.{ℕ, ◌≡◌, List, [], ◌∷◌, length}
+use Rattle.std.specs.Prelude.{ℕ, ◌≡◌, List, [], ◌∷◌, length, Result, Ok, Err}
 use mathlib.Core.Option.{Option, none, some}
 use Rattle.ring.specs.Inverse.{Inverse}
 use Rattle.answer.specs.First.{first}
-use Rattle.answer.specs.declared.Check.{Check}
-use Rattle.answer.specs.declared.Check.TheVariants.{Passed, Refused}
+use Rattle.answer.specs.Check.{Check}
 use Rattle.answer.specs.declared.Refusal.{Refusal}
 use Rattle.pattern.specs.Sent.{sent}
-use Rattle.pattern.specs.Factored.{Factored, factored}
+use Rattle.factors.specs.Factored.{Factored, factored, listed_order}
 use Rattle.pattern.specs.Counts.{Unmixed}
 use Rattle.pattern.specs.Smallest.{Smallest}
 use Rattle.pattern.specs.Ghost.{Ghost}
-use Rattle.pattern.specs.Promises.{listed_order}
-use Rattle.sheet.specs.Sheets.{sheet_of}
-use Rattle.sheet.specs.Held.{Held, held}
+use Rattle.sheet.specs.Held.{Held, held_of}
 
 pub data Outcome : Type 0 where
   refused : Refusal → Outcome
@@ -42,16 +39,16 @@ CountsBehind m f (some readings) (some counts) = Unmixed m (sent f readings) cou
 
 -- What may be shown of a sheet that holds h.
 abbrev pub Shown : Held → Outcome → Type 0
-Shown h (refused r) = first (held_order h) ≡ Refused r
+Shown h (refused r) = first (held_order h) ≡ Err r
 Shown h (singular prime ghost) = let n = length h.pattern in
-    (first (held_order h) ≡ Passed) × Smallest n h.modulus h.pattern prime × Ghost n h.modulus h.pattern prime ghost
+    (first (held_order h) ≡ Ok tt) × Smallest n h.modulus h.pattern prime × Ghost n h.modulus h.pattern prime ghost
 Shown h (inverted inverse counts) = let n = length h.pattern in
-    (first (held_order h) ≡ Passed) × Inverse n h.modulus h.pattern inverse × CountsBehind h.modulus h.pattern h.readings counts
+    (first (held_order h) ≡ Ok tt) × Inverse n h.modulus h.pattern inverse × CountsBehind h.modulus h.pattern h.readings counts
 
 -- What may be shown of a sheet: its own refusal comes first.
-abbrev pub AfterReading : Check → Held → Outcome → Type 0
-AfterReading (Refused r) h outcome = outcome ≡ refused r
-AfterReading Passed h outcome = Shown h outcome
+abbrev pub AfterReading : Result Held Refusal → Outcome → Type 0
+AfterReading (Err r) outcome = outcome ≡ refused r
+AfterReading (Ok h) outcome = Shown h outcome
 
 abbrev pub Comes : (s : List ℕ) → Outcome → Type 0
-Comes s outcome = AfterReading (sheet_of s).verdict (held s (sheet_of s)) outcome
+Comes s outcome = AfterReading (held_of s) outcome

@@ -1,5 +1,5 @@
 -- The lines that the program prints (document 01, The pattern sheet).
-use Rattle.std.specs.Prelude.{ℕ, List, [], ◌∷◌, ◌++◌}
+use Rattle.std.specs.Prelude.{ℕ, List, [], ◌∷◌, ◌++◌, length, Result, Ok, Err}
 use mathlib.Core.Option.{Option, none, some}
 use Rattle.answer.specs.Numbers.{refusal_row}
 use Rattle.answer.specs.declared.Refusal.{Refusal}
@@ -7,6 +7,7 @@ use Rattle.answer.specs.declared.Told.{Told}
 use Rattle.answer.specs.declared.Told.TheVariants.{Nothing, Ring, RingAndPlace, RingAndPrime, Place}
 use Rattle.lines.specs.Items.{Item, number, numbers, text}
 use Rattle.lines.specs.Lines.{line}
+use Rattle.sheet.specs.Held.{Held}
 use Rattle.page.specs.Outcome.{Outcome, refused, singular, inverted}
 
 -- "It prints `ring n modulus m`".
@@ -44,3 +45,8 @@ abbrev pub page : (n m : ℕ) → Outcome → List Item
 page n m (refused r) = refusal_line r
 page n m (singular prime ghost) = heading n m ++ singular_line prime ghost
 page n m (inverted inverse counts) = heading n m ++ (inverse_line inverse ++ counts_line counts)
+
+-- All lines of what comes of a sheet that holds so much; of one that is refused only a refusal comes, which has no heading.
+abbrev pub page_of : Result Held Refusal → Outcome → List Item
+page_of (Ok h) outcome = page (length h.pattern) h.modulus outcome
+page_of (Err r) outcome = page 0 0 outcome

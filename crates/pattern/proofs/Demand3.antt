@@ -2,6 +2,7 @@
 -- as document 02's second request reads its last sentence, same feeding says yes exactly when the counts behind the readings agree modulo m and are not
 -- all zero. Each as a law of the definitions (those on inverses stand in crate ring and are named here), and as what it means for the calls: the answer
 -- that fits, and by proofs/OneAnswer.antt there is no other. Assumes nothing.
+use Rattle.std.specs.Prelude.{Ok, Err}
 use Prim.Native.Nat.{ℕ, ◌%◌, ◌≤◌, ◌<◌}
 use mathlib.Core.Path.{◌≡◌, refl, sym, ap, ◌∙◌, subst}
 use mathlib.Core.Logic.{◌↔◌, ◌⊎◌, ◌≢◌, inl, inr}
@@ -27,17 +28,16 @@ pub use Rattle.ring.proofs.Fold.{fold_ring, fold_keeps_inverse, fold_keeps_inver
 use Rattle.modular.specs.FactorList.{FactorList}
 use Rattle.modular.proofs.HasList.{has_list}
 use Rattle.answer.specs.First.{first}
-use Rattle.answer.specs.declared.Check.TheVariants as check
-use Rattle.answer.specs.declared.Answer.{Answer}
-use Rattle.answer.specs.declared.Answer.TheVariants.{Done, Singular, Refused}
+use Rattle.answer.specs.Answer.{Answer}
+use Rattle.answer.specs.declared.Failure.TheVariants.{Singular, Refused}
 use Rattle.answer.proofs.Firsts.{both, passed_refused}
 use Rattle.checks.specs.Checks.{room, divisor}
 use Rattle.checks.specs.Order.{no_list}
 use Rattle.checks.specs.Legal.{Legal}
 use Rattle.checks.proofs.Orders.{legal, divisor_passes}
+use Rattle.factors.specs.Factored.{Factored, factored}
 use Rattle.calls.specs.Promises.{Mixes, Reduces, Folds}
 use Rattle.pattern.specs.Sent.{Sent, entries}
-use Rattle.pattern.specs.Factored.{Factored, factored}
 use Rattle.pattern.specs.Heard.{heard}
 use Rattle.pattern.specs.Counts.{Unmixed}
 use Rattle.pattern.specs.Same.{Same}
@@ -53,12 +53,12 @@ use Rattle.pattern.proofs.Demand2.{invert_done}
 -- ---- what invert answers
 
 -- A ring that has the inverse g, in a call that is legal: Done with g fits.
-inverts : (f : List ℕ) (M : Factored) (old g : List ℕ) → Legal f [] M.modulus → FactorList M.modulus M.primes M.exponents → length old ≡ length f → Inverse (length f) M.modulus f g → Inverts f M old Done g
+inverts : (f : List ℕ) (M : Factored) (old g : List ℕ) → Legal f [] M.modulus → FactorList M.modulus M.primes M.exponents → length old ≡ length f → Inverse (length f) M.modulus f g → Inverts f M old (Ok tt) g
 inverts f M old g l factors e i = record { meets = (invert_passes f M (length old) (record { legal = l; factors = factors }) e, i) }
 
 -- The same of another pattern f of n entries, where n and m are in range.
 again : {f₁ : List ℕ} {others : List (List ℕ)} {M : Factored} → Granted f₁ others M → (f old g : List ℕ) → length old ≡ length f₁ → Ring (length f₁) M.modulus f
-    → Inverse (length f₁) M.modulus f g → Inverts f M old Done g
+    → Inverse (length f₁) M.modulus f g → Inverts f M old (Ok tt) g
 again {f₁} {others} {M} given f old g e r i =
     let n : length f₁ ≡ length f = sym r.long in
     let l = given.legal in
@@ -70,7 +70,7 @@ again {f₁} {others} {M} given f old g e r i =
 
 -- Invert of a mix answers the mix of what it answers of the two,
 pub invert_mixed : {M : Factored} {f₁ f₂ f g₁ g₂ g o₁ o₂ o₃ o₄ : List ℕ} (old : List ℕ)
-    → Inverts f₁ M o₁ Done g₁ → Inverts f₂ M o₂ Done g₂ → Mixes f₁ f₂ M.modulus o₃ Done f → Mixes g₁ g₂ M.modulus o₄ Done g → length old ≡ length f₁ → Inverts f M old Done g
+    → Inverts f₁ M o₁ (Ok tt) g₁ → Inverts f₂ M o₂ (Ok tt) g₂ → Mixes f₁ f₂ M.modulus o₃ (Ok tt) f → Mixes g₁ g₂ M.modulus o₄ (Ok tt) g → length old ≡ length f₁ → Inverts f M old (Ok tt) g
 invert_mixed {M} {f₁} {f₂} {f} {g₁} {g₂} {g} {o₁} {o₂} {o₃} {o₄} old h₁ h₂ k k' e =
     let m = M.modulus in
     let given = (invert_granted f₁ M (length o₁) h₁.meets.0).0 in
@@ -82,9 +82,9 @@ invert_mixed {M} {f₁} {f₂} {f} {g₁} {g₂} {g} {o₁} {o₂} {o₃} {o₄}
     again given f old g e (rw k.meets.1 (mix_ring (length f₁) m f₁ f₂ pos)) (rw (k.meets.1, k'.meets.1, long) i)
 
 -- and is done exactly when it is of both.
-pub invert_mixed_done : {M : Factored} {f₁ f₂ f o₁ o₂ o₃ o x₁ x₂ x : List ℕ} {a₁ a₂ a : Answer} → first (invert_order f₁ M (length o₁)) ≡ check.Passed
-    → first (invert_order f₂ M (length o₂)) ≡ check.Passed → first (invert_order f M (length o)) ≡ check.Passed
-    → Inverts f₁ M o₁ a₁ x₁ → Inverts f₂ M o₂ a₂ x₂ → Mixes f₁ f₂ M.modulus o₃ Done f → Inverts f M o a x → (a ≡ Done) ↔ ((a₁ ≡ Done) × (a₂ ≡ Done))
+pub invert_mixed_done : {M : Factored} {f₁ f₂ f o₁ o₂ o₃ o x₁ x₂ x : List ℕ} {a₁ a₂ a : Answer} → first (invert_order f₁ M (length o₁)) ≡ Ok tt
+    → first (invert_order f₂ M (length o₂)) ≡ Ok tt → first (invert_order f M (length o)) ≡ Ok tt
+    → Inverts f₁ M o₁ a₁ x₁ → Inverts f₂ M o₂ a₂ x₂ → Mixes f₁ f₂ M.modulus o₃ (Ok tt) f → Inverts f M o a x → (a ≡ Ok tt) ↔ ((a₁ ≡ Ok tt) × (a₂ ≡ Ok tt))
 invert_mixed_done {M} {f₁} {f₂} {f} {o₁} {o₂} {o₃} {o} {x₁} {x₂} {x} {a₁} {a₂} {a} p₁ p₂ p h₁ h₂ k h =
     let m = M.modulus in
     let l = (legal f₁ (f₂ ∷ []) m no_list _ k.meets.0).0 in
@@ -103,7 +103,7 @@ invert_mixed_done {M} {f₁} {f₂} {f} {o₁} {o₂} {o₃} {o} {x₁} {x₂} {
 
 -- ---- twice
 
-pub invert_twice : {M : Factored} {f g o : List ℕ} (old : List ℕ) → Inverts f M o Done g → length old ≡ length f → Inverts g M old Done f
+pub invert_twice : {M : Factored} {f g o : List ℕ} (old : List ℕ) → Inverts f M o (Ok tt) g → length old ≡ length f → Inverts g M old (Ok tt) f
 invert_twice {M} {f} {g} {o} old h e =
     let given = (invert_granted f M (length o) h.meets.0).0 in
     again given g old f e h.meets.1.ring (inverse_inverse (length f) M.modulus f g given.legal.ring h.meets.1)
@@ -112,12 +112,12 @@ invert_twice {M} {f} {g} {o} old h e =
 
 -- With the factor list of m', which m' has; by `one_list` of crate modular there is no other.
 pub invert_reduced : {M : Factored} {m' : ℕ} {f g f' g' o₁ o₂ o₃ : List ℕ} (old : List ℕ)
-    → Inverts f M o₁ Done g → Reduces f M.modulus m' o₂ Done f' → Reduces g M.modulus m' o₃ Done g' → length old ≡ length f
-    → (M' : Factored) × (M'.modulus ≡ m') × Inverts f' M' old Done g'
+    → Inverts f M o₁ (Ok tt) g → Reduces f M.modulus m' o₂ (Ok tt) f' → Reduces g M.modulus m' o₃ (Ok tt) g' → length old ≡ length f
+    → (M' : Factored) × (M'.modulus ≡ m') × Inverts f' M' old (Ok tt) g'
 invert_reduced {M} {m'} {f} {g} {f'} {g'} {o₁} {o₂} {o₃} old h k k' e =
     let m = M.modulus in
     let t = legal f [] m no_list _ k.meets.0 in
-    let d = divisor_passes least_modulus m m' (both (divisor least_modulus m m') check.Passed (both (room (length f) (length o₂)) _ t.2).1).0 in
+    let d = divisor_passes least_modulus m m' (both (divisor least_modulus m m') (Ok tt) (both (room (length f) (length o₂)) _ t.2).1).0 in
     let pos : 0 < m' = omega (arith, d.0) in
     let less : m' ≤ m = le_of_dvd (omega (arith, t.0.low)) d.1 in
     let r : Ring (length f) m' f' = rw k.meets.1 (reduce_ring (length f) m' f pos) in
@@ -133,13 +133,13 @@ invert_reduced {M} {m'} {f} {g} {f'} {g'} {o₁} {o₂} {o₃} old h k k' e =
 
 -- ---- folded
 
-pub invert_folded : {M : Factored} {f g f' g' o₁ o₂ o₃ : List ℕ} (old : List ℕ) → Inverts f M o₁ Done g → Folds f M.modulus o₂ Done f' → Folds g M.modulus o₃ Done g'
-    → length o₃ ≡ length o₂ → length old ≡ length o₂ → Inverts f' M old Done g'
+pub invert_folded : {M : Factored} {f g f' g' o₁ o₂ o₃ : List ℕ} (old : List ℕ) → Inverts f M o₁ (Ok tt) g → Folds f M.modulus o₂ (Ok tt) f' → Folds g M.modulus o₃ (Ok tt) g'
+    → length o₃ ≡ length o₂ → length old ≡ length o₂ → Inverts f' M old (Ok tt) g'
 invert_folded {M} {f} {g} {f'} {g'} {o₁} {o₂} {o₃} old h k k' e e' =
     let m = M.modulus in
     let given = (invert_granted f M (length o₁) h.meets.0).0 in
     let t = legal f [] m no_list _ k.meets.0 in
-    let d = divisor_passes 1 (length f) (length o₂) (both (divisor 1 (length f) (length o₂)) check.Passed t.2).0 in
+    let d = divisor_passes 1 (length f) (length o₂) (both (divisor 1 (length f) (length o₂)) (Ok tt) t.2).0 in
     let pos : 0 < m = omega (arith, t.0.low) in
     let less : length o₂ ≤ length f = le_of_dvd t.0.some d.1 in
     let r : Ring (length o₂) m f' = rw k.meets.1 (fold_ring (length f) (length o₂) m d.1 f pos) in
@@ -171,21 +171,21 @@ same_exactly n m c₁ c₂ = (
       some = λ e. some (sym (at_table n _ place inside) ∙ e);
     }
 
-module _ (s₁ s₂ : Sent) (M : Factored) (ok : first (same_order s₁ s₂ M) ≡ check.Passed) (a : Answer) (same : Bool) (h : SameFeeding s₁ s₂ M a same) where
+module _ (s₁ s₂ : Sent) (M : Factored) (ok : first (same_order s₁ s₂ M) ≡ Ok tt) (a : Answer) (same : Bool) (h : SameFeeding s₁ s₂ M a same) where
   -- A legal call whose two count rings can be told is done, and says yes exactly when they are the same,
-  pub yes_exactly : {c₁ c₂ : List ℕ} → Unmixed M.modulus s₁ c₁ → Unmixed M.modulus s₂ c₂ → (a ≡ Done) × ((same ≡ true) ↔ Same (entries s₁) c₁ c₂)
+  pub yes_exactly : {c₁ c₂ : List ℕ} → Unmixed M.modulus s₁ c₁ → Unmixed M.modulus s₂ c₂ → (a ≡ Ok tt) × ((same ≡ true) ↔ Same (entries s₁) c₁ c₂)
   yes_exactly {c₁} {c₂} u₁ u₂ = go a h
     where
-      go : (a : Answer) → SameFeeding s₁ s₂ M a same → (a ≡ Done) × ((same ≡ true) ↔ Same (entries s₁) c₁ c₂)
-      go Done k = (refl, compared_exactly M.modulus s₁ s₂ u₁ u₂ k.meets.1)
-      go (Singular r p) k = absurd (named_none s₁ s₂ M (same_granted s₁ s₂ M ok) k.meets.1.lowest (u₁.invertible, u₂.invertible))
-      go (Refused r) k = absurd (passed_refused ok k.meets.0)
+      go : (a : Answer) → SameFeeding s₁ s₂ M a same → (a ≡ Ok tt) × ((same ≡ true) ↔ Same (entries s₁) c₁ c₂)
+      go (Ok _) k = (refl, compared_exactly M.modulus s₁ s₂ u₁ u₂ k.meets.1)
+      go (Err (Singular r p)) k = absurd (named_none s₁ s₂ M (same_granted s₁ s₂ M ok) k.meets.1.lowest (u₁.invertible, u₂.invertible))
+      go (Err (Refused r)) k = absurd (passed_refused ok k.meets.0)
 
   -- and of readings taken through two patterns that have inverses
   module _ (c₁ c₂ : List ℕ) (e₁ : s₁.readings ≡ heard M.modulus s₁ c₁) (e₂ : s₂.readings ≡ heard M.modulus s₂ c₂)
       (i₁ : Invertible (entries s₁) M.modulus s₁.pattern) (i₂ : Invertible (entries s₂) M.modulus s₂.pattern) where
     -- exactly when the counts behind them agree modulo m and are not all zero;
-    pub same_feeding : (a ≡ Done) × ((same ≡ true) ↔ (Agree (entries s₁) M.modulus c₁ c₂ × ¬ Idle (entries s₁) M.modulus c₁))
+    pub same_feeding : (a ≡ Ok tt) × ((same ≡ true) ↔ (Agree (entries s₁) M.modulus c₁ c₂ × ¬ Idle (entries s₁) M.modulus c₁))
     same_feeding =
         let m = M.modulus in
         let given = same_granted s₁ s₂ M ok in
@@ -197,7 +197,7 @@ module _ (s₁ s₂ : Sent) (M : Factored) (ok : first (same_order s₁ s₂ M) 
         (t.0, ((λ e. law.0 (t.1.0 e)), (λ e. t.1.1 (law.1 e))))
 
     -- no in every other case. (There are counts behind all legal readings through such a pattern: `counts_behind` in proofs/Unmixing.antt.)
-    pub other_feeding : ¬ (Agree (entries s₁) M.modulus c₁ c₂ × ¬ Idle (entries s₁) M.modulus c₁) → (a ≡ Done) × (same ≡ false)
+    pub other_feeding : ¬ (Agree (entries s₁) M.modulus c₁ c₂ × ¬ Idle (entries s₁) M.modulus c₁) → (a ≡ Ok tt) × (same ≡ false)
     other_feeding differ = (same_feeding.0, not-eq-not.0 (λ yes. differ (same_feeding.1.0 yes)))
 
 -- ---- an idle tank is no feeding, whatever is lent, legal or not
@@ -207,10 +207,10 @@ module _ (s₁ s₂ : Sent) (M : Factored) where
   m = M.modulus
 
   -- Where it says yes the call is legal and both count rings can be told;
-  told : (a : Answer) → SameFeeding s₁ s₂ M a true → (first (same_order s₁ s₂ M) ≡ check.Passed) × Compared m s₁ s₂ true
-  told Done h = h.meets
-  told (Singular r p) h = absurd (true≢false h.meets.1.untold)
-  told (Refused r) h = absurd (true≢false h.meets.1)
+  told : (a : Answer) → SameFeeding s₁ s₂ M a true → (first (same_order s₁ s₂ M) ≡ Ok tt) × Compared m s₁ s₂ true
+  told (Ok _) h = h.meets
+  told (Err (Singular r p)) h = absurd (true≢false h.meets.1.untold)
+  told (Err (Refused r)) h = absurd (true≢false h.meets.1)
 
   -- and they agree and are not all zero.
   module _ (a : Answer) (h : SameFeeding s₁ s₂ M a true) where

@@ -11,10 +11,10 @@ use lib.ListN.{length}
 use Rattle.sums.specs.Table.{at}
 use Rattle.sums.proofs.Tests.{all_or-one}
 use Rattle.ring.specs.Inverse.{Inverse, Invertible}
-use Rattle.answer.specs.declared.Answer.{Answer}
+use Rattle.answer.specs.Answer.{Answer}
 use Rattle.answer.proofs.OneAnswer.{some_answer}
+use Rattle.factors.specs.Factored.{Factored}
 use Rattle.pattern.specs.Sent.{Sent, entries}
-use Rattle.pattern.specs.Factored.{Factored}
 use Rattle.pattern.specs.Same.{Same}
 use Rattle.pattern.specs.Smallest.{Smallest}
 use Rattle.pattern.specs.Counts.{Unmixed}

@@ -1,5 +1,6 @@
 -- The product of the first i powers of a factor list: what the inverses are joined modulo, one power after the other, until it is m.
 -- It is never a multiple of the prime that comes next, so that prime's powers share no factor with it. Assumes nothing.
+use Rattle.std.specs.Prelude.{Result, Ok, Err}
 use Prim.Native.Nat.{ℕ, zero, suc, ◌+◌, ◌*◌, ◌%◌, ◌/◌, ◌^◌, ◌≤◌, ◌<◌, ◌∣◌}
 use mathlib.Core.Path.{◌≡◌, refl, sym, ap, ◌∙◌, subst}
 use mathlib.Core.Logic.{◌≢◌}
@@ -15,8 +16,7 @@ use Rattle.modular.specs.Prime.{Prime}
 use Rattle.modular.specs.Inverse.{InverseOf}
 use Rattle.modular.specs.Finds.{Shared, Finds}
 use Rattle.modular.specs.FactorList.{Rising, powers, FactorList}
-use Rattle.modular.specs.declared.inverse.Found.{Found}
-use Rattle.modular.specs.declared.inverse.Found.TheVariants.{Inverse, Shares}
+use Rattle.modular.specs.declared.inverse.Shares.{Shares}
 use Rattle.modular.proofs.Divisions.{found}
 use Rattle.modular.proofs.Primes.{prime_mul, prime_pow, prime_prime}
 use Rattle.modular.proofs.Factors.{head_divides, rising_same, rising_order, powers_some, listed}
@@ -103,9 +103,9 @@ power_shares p k y {d} pr h s = elim (ℕ_discrete (d % p) 0) [
 pub power_inverse : (p k y : ℕ) → Prime p → y % p ≢ 0 → 1 < p ^ k → (z : ℕ) × InverseOf (p ^ k) y z
 power_inverse p k y pr h l = pick (found (p ^ k) y l)
   where
-    pick : (r : Found) × Finds (p ^ k) y r → (z : ℕ) × InverseOf (p ^ k) y z
-    pick (Inverse z, f) = (z, (f.inverse z).0 refl)
-    pick (Shares d, f) = absurd (power_shares p k y pr h ((f.shares d).0 refl))
+    pick : (r : Result ℕ Shares) × Finds (p ^ k) y r → (z : ℕ) × InverseOf (p ^ k) y z
+    pick (Ok z, f) = (z, (f.inverse z).0 refl)
+    pick (Err s, f) = absurd (power_shares p k y pr h ((f.shares s.divisor).0 refl))
 
 pub power_above : (p k : ℕ) → 1 < p → 1 ≤ k → 1 < p ^ k
 power_above p zero h l = omega arith

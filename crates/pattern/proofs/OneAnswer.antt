@@ -1,6 +1,7 @@
 -- For every input invert, unmix and same feeding have one answer, one content of the output and one yes or no: any two that fit are equal.
 -- There is one inverse, one smallest singular prime, one ghost and one ring of counts; and where there is an inverse no prime of m is singular.
 -- Assumes nothing.
+use Rattle.std.specs.Prelude.{Ok}
 use Prim.Native.Nat.{ℕ, ◌<◌}
 use mathlib.Core.Path.{◌≡◌, refl, sym, ◌∙◌, subst}
 use mathlib.Core.Logic.{◌↔◌, ◌⊎◌, inl, inr}
@@ -11,12 +12,11 @@ use Rattle.sums.proofs.Tests.{one_saying}
 use Rattle.ring.specs.Inverse.{Inverse, Invertible}
 use Rattle.ring.proofs.Inverses.{inverse_unique}
 use Rattle.answer.specs.First.{first}
-use Rattle.answer.specs.declared.Check.TheVariants.{Passed}
-use Rattle.answer.specs.declared.Answer.{Answer}
-use Rattle.answer.specs.declared.Answer.TheVariants.{Singular}
+use Rattle.answer.specs.Answer.{Answer}
+use Rattle.answer.specs.declared.Failure.TheVariants.{Singular}
 use Rattle.answer.proofs.OneAnswer.{one_answer}
+use Rattle.factors.specs.Factored.{Factored}
 use Rattle.pattern.specs.Sent.{Sent, entries}
-use Rattle.pattern.specs.Factored.{Factored}
 use Rattle.pattern.specs.Counts.{Unmixed}
 use Rattle.pattern.specs.Same.{Same}
 use Rattle.pattern.specs.Smallest.{Smallest}
@@ -41,7 +41,7 @@ invert_one_answer f M old h k =
     ))
     _ _ _ _ h.meets k.meets
   where
-    some : first (invert_order f M (length old)) ≡ Passed → 0 < length f
+    some : first (invert_order f M (length old)) ≡ Ok tt → 0 < length f
     some e = (invert_granted f M (length old) e).0.legal.some
 
 -- ---- unmix

@@ -1,5 +1,6 @@
 -- The counts behind readings: they are the inverse mixed with the readings, the only ones, all zero exactly when the readings are, and unmixing what was
 -- heard of counts gives them back. f (g y) = y, and c = g (f c), where g is the inverse of f. Assumes nothing.
+use Rattle.std.specs.Prelude.{Ok}
 use Prim.Native.Nat.{ℕ, ◌<◌}
 use mathlib.Core.Path.{◌≡◌, sym, ap, ◌∙◌}
 use mathlib.Core.Logic.{◌↔◌}
@@ -15,9 +16,8 @@ use Rattle.ring.specs.Reduce.{reduce}
 use Rattle.ring.specs.Inverse.{Inverse, Invertible}
 use Rattle.ring.proofs.Entries.{reduce_id, reduce_ring}
 use Rattle.ring.proofs.Product.{mix_comm, mix_assoc, mix-one, mix-zeros, mix-reduce, mix_ring}
-use Rattle.answer.specs.declared.Answer.TheVariants.{Done}
+use Rattle.factors.specs.Factored.{Factored}
 use Rattle.pattern.specs.Sent.{Sent, entries}
-use Rattle.pattern.specs.Factored.{Factored}
 use Rattle.pattern.specs.Heard.{heard}
 use Rattle.pattern.specs.Counts.{Counts, Unmixed}
 use Rattle.pattern.specs.Idle.{Idle}
@@ -88,11 +88,11 @@ module _ (m : ℕ) (s : Sent) where
 -- ---- what it means for the calls
 
 -- Unmix answers what invert and mix would.
-pub unmix_mixes : (s : Sent) (M : Factored) (old old' g c : List ℕ) → Inverts s.pattern M old Done g → Unmixes s M old' Done c → c ≡ mix (entries s) M.modulus g s.readings
+pub unmix_mixes : (s : Sent) (M : Factored) (old old' g c : List ℕ) → Inverts s.pattern M old (Ok tt) g → Unmixes s M old' (Ok tt) c → c ≡ mix (entries s) M.modulus g s.readings
 unmix_mixes s M old old' g c h k = counts_mixed M.modulus s h.meets.1 k.meets.1.counts
 
 -- Unmixing what was heard of counts gives the counts.
-pub unmix_heard : (s : Sent) (M : Factored) (c old new : List ℕ) → Ring (entries s) M.modulus c → s.readings ≡ heard M.modulus s c → Unmixes s M old Done new → new ≡ c
+pub unmix_heard : (s : Sent) (M : Factored) (c old new : List ℕ) → Ring (entries s) M.modulus c → s.readings ≡ heard M.modulus s c → Unmixes s M old (Ok tt) new → new ≡ c
 unmix_heard s M c old new r h k =
     let given = (unmix_granted s M (length old) k.meets.0).0 in
     counts_heard M.modulus s c (omega (arith, given.legal.low)) h k.meets.1 ∙ reduce_id (entries s) M.modulus r

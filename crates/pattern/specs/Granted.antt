@@ -3,8 +3,8 @@
 use Rattle.std.specs.Prelude.{ℕ, ◌≡◌, List, [], ◌∷◌}
 use Rattle.modular.specs.FactorList.{FactorList}
 use Rattle.checks.specs.Legal.{Legal}
+use Rattle.factors.specs.Factored.{Factored}
 use Rattle.pattern.specs.Sent.{Sent, entries}
-use Rattle.pattern.specs.Factored.{Factored}
 
 pub record Granted (f : List ℕ) (others : List (List ℕ)) (M : Factored) : Type 0 where
   pub legal : Legal f others M.modulus

@@ -1,5 +1,4 @@
 pub mod Sent
-pub mod Factored
 pub mod Heard
 pub mod Counts
 pub mod Same

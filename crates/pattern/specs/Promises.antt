@@ -3,21 +3,15 @@
 use Rattle.std.specs.Prelude.{ℕ, ◌≡◌, ◌↔◌, ◌⊎◌, Bool, true, false, List, [], ◌∷◌, length}
 use Rattle.ring.specs.Inverse.{Inverse, Invertible}
 use Rattle.answer.specs.Contract.{Meets}
-use Rattle.answer.specs.declared.Check.{Check}
-use Rattle.answer.specs.declared.Answer.{Answer}
+use Rattle.answer.specs.Check.{Check}
+use Rattle.answer.specs.Answer.{Answer}
 use Rattle.checks.specs.Checks as checks
-use Rattle.checks.specs.Factors.{factors}
-use Rattle.checks.specs.Order.{ring_order}
+use Rattle.factors.specs.Factored.{Factored, listed_order}
 use Rattle.pattern.specs.Sent.{Sent, entries}
-use Rattle.pattern.specs.Factored.{Factored}
 use Rattle.pattern.specs.Counts.{Unmixed}
 use Rattle.pattern.specs.Same.{Same}
 use Rattle.pattern.specs.Smallest.{Smallest}
 use Rattle.pattern.specs.Ghost.{Ghost}
-
--- The order of a call on rings with a factor list.
-abbrev pub listed_order : (f : List ℕ) (others : List (List ℕ)) (M : Factored) (rest : List Check) → List Check
-listed_order f others M rest = ring_order f others M.modulus (factors M.modulus M.primes M.exponents) rest
 
 -- ---- "Invert a pattern." Refusals 1, 2, 4, those of the factor list, 6, 7.
 

@@ -1,10 +1,8 @@
 -- What is told of the extended Euclid on f and x^n - 1 modulo p: kind 0 with the inverse in the output, kind 1 with the ghost in the output and the degree of
 -- the shared factor, or kind 2 with the output as it came where it takes no such call. That only one answer fits is `one_solution` in proofs/OneAnswer.antt.
-use Rattle.std.specs.Prelude.{ℕ, ◌≡◌, ◌⊎◌, List, length}
+use Rattle.std.specs.Prelude.{ℕ, ◌≡◌, ◌⊎◌, Ok, Err, List, length}
 use Rattle.sums.specs.Table.{at}
-use Rattle.euclid.specs.Answer.{Answers}
-use Rattle.euclid.specs.declared.Outcome.{Outcome}
-use Rattle.euclid.specs.declared.Outcome.TheVariants.{Inverted, Shared}
+use Rattle.euclid.specs.Answer.{Outcome, Answers}
 use Rattle.probe.specs.Takes.{Takes}
 use Rattle.probe.specs.declared.Solution.{Solution}
 
@@ -12,8 +10,8 @@ abbrev pub solution : ℕ → ℕ → Solution
 solution k d = record { kind = k; zero = 0; degree = d }
 
 abbrev pub solution_of : Outcome → Solution
-solution_of Inverted = solution 0 0
-solution_of (Shared d) = solution 1 d
+solution_of (Ok _) = solution 0 0
+solution_of (Err s) = solution 1 s.degree
 
 pub record SolutionFound (f : List ℕ) (p : ℕ) (before after : List ℕ) (r : Solution) : Type 0 where
   pub taken : Takes f p (length before)

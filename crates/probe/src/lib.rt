@@ -7,18 +7,19 @@ ghost use Rattle.modular.specs.Prime.{TellsPrime};
 ghost use Rattle.modular.specs.Rounds.{Rounds};
 ghost use Rattle.answer.specs.Reply.{check_reply};
 ghost use Rattle.checks.specs.Factors.{factors};
-ghost use Rattle.probe.specs.Takes.{AllBelow, Takes, Tells};
-ghost use Rattle.probe.specs.Number.{TellsInverse};
-ghost use Rattle.probe.specs.Solution.{solution, TellsSolution};
+ghost use Rattle.probe.specs.Takes.{Takes, Tells};
+ghost use Rattle.probe.specs.Number.{number_of, TellsInverse};
+ghost use Rattle.probe.specs.Solution.{solution, solution_of, TellsSolution};
 
-use answer::{Answer, Check, Reply, reply_of};
+use answer::{Failure, Reply};
 use euclid::{Outcome, euclid};
-use factors::check_factors;
+use factors::Factored;
 use limits::{MOST_ENTRIES, MOST_MODULUS};
-use modular::inverse::{Found, inverse};
+use modular::inverse::{Shares, inverse};
 use modular::power::rounds;
 use modular::prime::is_prime;
 
+// By hand: the kinds are numbers of the C interface (tests/probe.h).
 const DONE: u32 = 0;
 
 const OTHER: u32 = 1;
@@ -37,10 +38,12 @@ pub extern "C" fn probe_is_prime(p: u32) -> bool
 pub extern "C" fn probe_factors(primes: &[u32], exponents: &[u8], m: u32) -> Reply
     ensures { result ≡ check_reply (factors m primes.now exponents.now) }
 {
-    match check_factors(primes, exponents, m) {
-        Check::Passed => reply_of(Answer::Done),
-        Check::Refused(refusal) => reply_of(Answer::Refused(refusal)),
-    }
+    let list = Factored {
+        modulus: m,
+        primes,
+        exponents,
+    };
+    Reply::from(list.check().map_err(Failure::from))
 }
 
 // The inverse, or the greatest common divisor.
@@ -49,6 +52,20 @@ pub extern "C" fn probe_factors(primes: &[u32], exponents: &[u8], m: u32) -> Rep
 pub struct Number {
     pub kind: u32,
     pub value: u32,
+}
+
+impl From<Result<u32, Shares>> for Number {
+    ghost from_gives = { λ found number. number ≡ number_of found };
+
+    fn from(found: Result<u32, Shares>) -> Number {
+        match found {
+            Ok(value) => Number { kind: DONE, value },
+            Err(shares) => Number {
+                kind: OTHER,
+                value: shares.divisor,
+            },
+        }
+    }
 }
 
 #[unsafe(no_mangle)]
@@ -61,16 +78,7 @@ pub extern "C" fn probe_inverse(y: u32, m: u32) -> Number
             value: 0,
         };
     }
-    match inverse(y, m) {
-        Found::Inverse(z) => Number {
-            kind: DONE,
-            value: z,
-        },
-        Found::Shares(d) => Number {
-            kind: OTHER,
-            value: d,
-        },
-    }
+    Number::from(inverse(y, m))
 }
 
 #[unsafe(no_mangle)]
@@ -99,18 +107,15 @@ fn told(kind: u32, degree: usize) -> Solution
     }
 }
 
-// Whether all entries are below p.
-fn all_below(f: &[u32], p: u32) -> bool
-    ensures { Tells (AllBelow p f.now) result }
-{
-    let mut k = 0;
-    while k < f.len() {
-        if p <= f[k] {
-            return false;
+impl From<Outcome> for Solution {
+    ghost from_gives = { λ outcome told. told ≡ solution_of outcome };
+
+    fn from(outcome: Outcome) -> Solution {
+        match outcome {
+            Ok(()) => told(DONE, 0),
+            Err(shared) => told(OTHER, shared.degree),
         }
-        k += 1;
     }
-    true
 }
 
 // Whether f modulo p is what the extended Euclid takes.
@@ -118,22 +123,12 @@ fn solvable(f: &[u32], p: u32, room: usize) -> bool
     ensures { Tells (Takes f.now p room) result }
 {
     let n = f.len();
-    if n == 0 {
-        return false;
-    }
-    if MOST_ENTRIES < n {
-        return false;
-    }
-    if room != n {
-        return false;
-    }
-    if MOST_MODULUS < p {
-        return false;
-    }
-    if is_prime(p) {
-        return all_below(f, p);
-    }
-    false
+    0 < n
+        && n <= MOST_ENTRIES
+        && room == n
+        && p <= MOST_MODULUS
+        && is_prime(p)
+        && f.iter().all(|x| *x < p)
 }
 
 #[unsafe(no_mangle)]
@@ -141,10 +136,7 @@ pub extern "C" fn probe_euclid(f: &[u32], p: u32, out: &mut [u32]) -> Solution
     ensures { TellsSolution f.now p out.old out.new result }
 {
     if solvable(f, p, out.len()) {
-        return match euclid(f, p, out) {
-            Outcome::Inverted => told(DONE, 0),
-            Outcome::Shared(degree) => told(OTHER, degree),
-        };
+        return Solution::from(euclid(f, p, out));
     }
     told(REFUSED, 0)
 }

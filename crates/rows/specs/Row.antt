@@ -26,15 +26,14 @@ terms n p t = table n (λ i. t i % p)
 unfoldable pub plus : ℕ → List ℕ → (ℕ → ℕ) → List ℕ
 plus p l t = table (length l) (λ i. (at l i + t i) % p)
 
--- What a multiple of a row by f asks.
-pub record Scalable (p f w : ℕ) (l : List ℕ) : Type 0 where
+-- What a multiple of a row modulo p asks.
+pub record Scalable (p : ℕ) (l : List ℕ) : Type 0 where
   pub modulus : p ≤ most_row_modulus
-  pub factor : Prepared p f w
   pub low : (i : ℕ) → at l i < p
 
--- What a multiple by f + g x asks to be added to a row.
-pub record LinearAddable (p f w g v : ℕ) (dst src : List ℕ) : Type 0 where
-  pub multiple : Scalable p f w src
-  pub second : Prepared p g v
+-- What a multiple by f + g x asks to be added to a row: p and q are the moduli of f and of g.
+pub record LinearAddable (p q : ℕ) (dst src : List ℕ) : Type 0 where
+  pub multiple : Scalable p src
+  pub same : q ≡ p
   pub onto : (i : ℕ) → at dst i < p
   pub fits : length src < length dst

@@ -5,18 +5,6 @@ ghost use Rattle.std.specs.Prelude.{◌≡◌, ◌+◌, ◌*◌, ◌%◌, ◌<�
 ghost use Rattle.rows.specs.Row.{Prepared, LinearAddable, Scalable, times, times_linear, terms, plus};
 ghost use Rattle.rows.specs.Near.{Near, Entry, TwoEntries};
 
-use words::wide;
-
-// The quotient of a factor f: computed once for a row, it spares a division for each entry.
-pub fn quotient(f: u32, p: u32) -> u32
-    requires { f < p }
-    ensures { Prepared p f result }
-{
-    let a = wide(f);
-    let b = wide(p);
-    (0x1_0000_0000 * a / b) as u32
-}
-
 // r modulo p, of r below three times p.
 fn thrice(r: u32, p: u32) -> u32
     requires { r < 3 * p }
@@ -31,63 +19,77 @@ fn plus_near(x: u32, t: u64, s: u64, p: u32) -> u32
     requires { Near x t s p }
     ensures { result ≡ (x + t) % p }
 {
-    let q = wide((s >> 32) as u32);
-    let m = wide(p);
-    let z = wide(x);
-    thrice((z + t - q * m) as u32, p)
+    let q = u64::from((s >> 32) as u32);
+    thrice((u64::from(x) + t - q * u64::from(p)) as u32, p)
 }
 
-// x + f y modulo p, where w is the quotient of f.
-pub fn plus_multiple(x: u32, y: u32, f: u32, w: u32, p: u32) -> u32
-    requires { Entry p f w x y }
-    ensures { result ≡ (x + f * y) % p }
-{
-    let a = wide(y);
-    let t = wide(f) * a;
-    let s = wide(w) * a;
-    plus_near(x, t, s, p)
+// A factor below the modulus of a row, and its quotient: computed once for a row, it spares a division for each entry.
+#[derive(Clone, Copy)]
+pub struct Factor {
+    pub value: u32,
+    pub quotient: u32,
+    pub modulus: u32,
+    pub ghost prepared: { Prepared modulus value quotient },
 }
 
-// x + f y + g z modulo p.
-fn plus_two(x: u32, y: u32, z: u32, f: u32, w: u32, g: u32, v: u32, p: u32) -> u32
-    requires { TwoEntries p f w g v x y z }
-    ensures { result ≡ (x + (f * y + g * z)) % p }
-{
-    let a = wide(y);
-    let b = wide(z);
-    let t = wide(f) * a + wide(g) * b;
-    let s = wide(w) * a + wide(v) * b;
-    plus_near(x, t, s, p)
+impl Factor {
+    pub fn new(value: u32, modulus: u32) -> Factor
+        requires { value < modulus }
+        ensures value { result.value ≡ value }
+        ensures modulus { result.modulus ≡ modulus }
+    {
+        let quotient = (0x1_0000_0000 * u64::from(value) / u64::from(modulus)) as u32;
+        Factor {
+            value,
+            quotient,
+            modulus,
+        }
+    }
+
+    // x + f y modulo p, where f is the factor.
+    pub fn plus_multiple(self, x: u32, y: u32) -> u32
+        requires { Entry self.modulus x y }
+        ensures { result ≡ (x + self.value * y) % self.modulus }
+    {
+        let a = u64::from(y);
+        let t = u64::from(self.value) * a;
+        let s = u64::from(self.quotient) * a;
+        plus_near(x, t, s, self.modulus)
+    }
+
+    // The row becomes its multiple.
+    pub fn scale(self, row: &mut [u32])
+        requires { Scalable self.modulus row.old }
+        ensures { row.new ≡ terms (length row.old) self.modulus (times self.value row.old) }
+    {
+        for y in row.iter_mut() {
+            *y = self.plus_multiple(0, *y);
+        }
+    }
 }
 
-// dst plus f + g x times src, where entry i stands for x^i; what is past the product's length stays.
-pub fn add_linear(dst: &mut [u32], src: &[u32], f: u32, w: u32, g: u32, v: u32, p: u32)
-    requires { LinearAddable p f w g v dst.old src.now }
-    ensures { dst.new ≡ plus p dst.old (times_linear f g src.now) }
+// x + f y + g z modulo p, where low is f and high g.
+fn plus_two(x: u32, y: u32, z: u32, low: Factor, high: Factor) -> u32
+    requires { TwoEntries low.modulus high.modulus x y z }
+    ensures { result ≡ (x + (low.value * y + high.value * z)) % low.modulus }
 {
-    let n = src.len();
+    let a = u64::from(y);
+    let b = u64::from(z);
+    let t = u64::from(low.value) * a + u64::from(high.value) * b;
+    let s = u64::from(low.quotient) * a + u64::from(high.quotient) * b;
+    plus_near(x, t, s, low.modulus)
+}
+
+// dst plus low + high x times src, where entry i stands for x^i; what is past the product's length stays.
+pub fn add_linear(dst: &mut [u32], src: &[u32], low: Factor, high: Factor)
+    requires { LinearAddable low.modulus high.modulus dst.old src.now }
+    ensures { dst.new ≡ plus low.modulus dst.old (times_linear low.value high.value src.now) }
+{
     let mut last = 0;
-    let mut i = 0;
-    while i < n {
-        let x = dst[i];
-        let y = src[i];
-        dst[i] = plus_two(x, y, last, f, w, g, v, p);
+    for (i, &y) in src.iter().enumerate() {
+        dst[i] = plus_two(dst[i], y, last, low, high);
         last = y;
-        i += 1;
     }
-    let x = dst[n];
-    dst[n] = plus_multiple(x, last, g, v, p);
-}
-
-// f times the row.
-pub fn scale(row: &mut [u32], f: u32, w: u32, p: u32)
-    requires { Scalable p f w row.old }
-    ensures { row.new ≡ terms (length row.old) p (times f row.old) }
-{
-    let mut i = 0;
-    while i < row.len() {
-        let y = row[i];
-        row[i] = plus_multiple(0, y, f, w, p);
-        i += 1;
-    }
+    let n = src.len();
+    dst[n] = high.plus_multiple(dst[n], last);
 }

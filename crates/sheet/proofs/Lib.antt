@@ -1,6 +1,5 @@
 pub mod Entries
-pub mod Steps
-pub mod Turns
+pub mod Walking
 pub mod Parts
 pub mod Written
 pub mod FirstBytes

@@ -1,5 +1,6 @@
 -- A version 1 sheet written from its values reads back as exactly those values, and as without readings where there are none (what a writer of
 -- sheets needs). Its fields are well-formed, and each value stands where its part is told. Assumes nothing.
+use Rattle.std.specs.Prelude.{Some}
 use Prim.Native.Nat.{ℕ, ◌+◌}
 use mathlib.Core.Path.{◌≡◌, refl, sym, ap, ◌∙◌}
 use mathlib.Core.List.{List, [], ◌∷◌, ◌++◌, append_assoc}
@@ -80,18 +81,20 @@ module _ (modulus factors pattern : List ℕ) where
       → Back s (told s (accepted (all_placed (version_1 modulus factors pattern readings) [] 0))) modulus factors pattern readings
   unfolding all_placed part_of
   back s none four h = record {
-    verdict = refl;
+    sheet = _;
+    accepted = refl;
     modulus_is = sym (in_part 4 (length modulus) s 7 (omega arith)) ∙ ap (λ (l : List ℕ). big_endian 4 l 0) h.1.0;
     factors_are = h.1.1.0;
     pattern_is = h.1.1.1.0;
     readings_are = refl;
   }
   back s (some given) four h = record {
-    verdict = refl;
+    sheet = _;
+    accepted = refl;
     modulus_is = sym (in_part 4 (length modulus) s 7 (omega arith)) ∙ ap (λ (l : List ℕ). big_endian 4 l 0) h.1.0;
     factors_are = h.1.1.0;
     pattern_is = h.1.1.1.0;
-    readings_are = (refl, h.1.1.1.1.0);
+    readings_are = ap Some h.1.1.1.1.0;
   }
 
   pub written_reads_back : (readings : Option (List ℕ)) → Lengths modulus factors pattern readings

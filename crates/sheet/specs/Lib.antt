@@ -1,4 +1,4 @@
-pub mod Steps
+pub mod Walked
 pub mod Sheets
 pub mod Entries
 pub mod Held

@@ -1,13 +1,12 @@
 -- A version 1 sheet that is written from its values, and what reads back (document 01, The pattern sheet).
-use Rattle.std.specs.Prelude.{ℕ, ◌%◌, ◌≤◌, ◌≡◌, true, List, [], ◌∷◌, length}
+use Rattle.std.specs.Prelude.{ℕ, ◌%◌, ◌≤◌, ◌≡◌, List, [], ◌∷◌, length, Option as std-Option, Some, None, option_map, Result, Ok}
 use mathlib.Core.Option.{Option, none, some}
 use Rattle.limits.specs.Limits.{modulus_bytes, factor_bytes, entry_bytes, most_factor_bytes, most_entry_bytes}
-use Rattle.answer.specs.declared.Check.TheVariants.{Passed}
 use Rattle.octets.specs.Numbers.{big_endian}
-use Rattle.fields.specs.Fields.{absent}
+use Rattle.answer.specs.declared.Refusal.{Refusal}
+use Rattle.fields.specs.Fields.{bytes_of}
 use Rattle.fields.specs.Joined.{Value}
 use Rattle.fields.specs.declared.Part.{Part}
-use Rattle.sheet.specs.Sheets.{bytes_of}
 use Rattle.sheet.specs.declared.Sheet.{Sheet}
 
 -- The fields of a version 1 sheet with these values, in their order; the readings are optional.
@@ -37,12 +36,13 @@ pub record Lengths (modulus factors pattern : List ℕ) (readings : Option (List
   pub same : ReadingsFit pattern readings
 
 -- What reads back.
-abbrev pub ReadingsBack : (s : List ℕ) → Part → Option (List ℕ) → Type 0
-ReadingsBack s part none = part ≡ absent
-ReadingsBack s part (some readings) = (part.present ≡ true) × (bytes_of s part ≡ readings)
+abbrev pub ReadingsBack : (s : List ℕ) → std-Option Part → Option (List ℕ) → Type 0
+ReadingsBack s part none = part ≡ None
+ReadingsBack s part (some readings) = option_map (bytes_of s) part ≡ Some readings
 
-pub record Back (s : List ℕ) (sheet : Sheet) (modulus factors pattern : List ℕ) (readings : Option (List ℕ)) : Type 0 where
-  pub verdict : sheet.verdict ≡ Passed
+pub record Back (s : List ℕ) (read : Result Sheet Refusal) (modulus factors pattern : List ℕ) (readings : Option (List ℕ)) : Type 0 where
+  pub sheet : Sheet
+  pub accepted : read ≡ Ok sheet
   pub modulus_is : sheet.modulus ≡ big_endian 4 modulus 0
   pub factors_are : bytes_of s sheet.factors ≡ factors
   pub pattern_is : bytes_of s sheet.pattern ≡ pattern

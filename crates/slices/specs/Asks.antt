@@ -1,5 +1,5 @@
--- What the loops of this crate ask of their slices, and what a comparison tells.
-use Rattle.std.specs.Prelude.{ℕ, ◌*◌, ◌^◌, ◌<◌, ◌≡◌, Bool, true, false, List, length}
+-- What the loops of this crate ask of their slices.
+use Rattle.std.specs.Prelude.{ℕ, ◌*◌, ◌^◌, ◌<◌, ◌≡◌, List, length}
 use Rattle.sums.specs.Table.{at}
 
 pub record Reducible (a : List ℕ) (divisor : ℕ) (out : List ℕ) : Type 0 where
@@ -9,8 +9,3 @@ pub record Reducible (a : List ℕ) (divisor : ℕ) (out : List ℕ) : Type 0 wh
 -- Every entry times the factor is a word of 32 bits.
 pub record Multipliable (row : List ℕ) (factor : ℕ) : Type 0 where
   pub fits : (k : ℕ) → factor * at row k < 2 ^ 32
-
--- r tells whether two lists are the same.
-pub record TellsEqual (a b : List ℕ) (r : Bool) : Type 0 where
-  pub equal : r ≡ true → a ≡ b
-  pub differ : r ≡ false → ¬ (a ≡ b)

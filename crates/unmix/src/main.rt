@@ -12,10 +12,7 @@ use std::io::{Input, Print, Read};
 fn print_report<R: Print>(rt: &R, sheet: &[u8]) {
     let mut text = [0u8; TEXT_ROOM];
     let length = report(sheet, &mut text);
-    match rt.write_all(&text[..length]) {
-        Ok(()) => {}
-        Err(_) => {}
-    }
+    let _ = rt.write_all(&text[..length]);
 }
 
 // Reads until the bytes are full or the input ends, and tells how many came. A read that fails counts as the end.
@@ -24,6 +21,7 @@ fn read_full<R: Input>(rt: &R, bytes: &mut [u8]) -> usize
 {
     let mut reader = rt.reader();
     let mut at = 0;
+    // By hand: `read_to_end` needs the heap, which this project has not, and `read_exact` doesn't tell how many bytes came.
     while at < bytes.len() {
         match reader.read(&mut bytes[at..]) {
             Ok(0) => return at,

@@ -1,13 +1,14 @@
--- `along::four_sums` meets its contract: after i turns each sum has its first i products, and a block of them fits a word. Assumes nothing.
-use Prim.Native.Nat.{◌-◌, ◌≤◌}
+-- `along::four_sums` meets its contract: after i turns each sum has its first i products, and the sums before j have the next one too. Assumes nothing.
 use mathlib.Core.Path.{◌≡◌}
-use lib.ListN.{length}
-use Rattle.sums.specs.Sum.{sum}
-use Rattle.along.specs.Along.{term}
+use mathlib.Core.List.{◌++◌}
+use Prim.Native.Nat.{◌+◌}
+use lib.ListN.{drop}
+use Rattle.sums.specs.Table.{table}
+use Rattle.along.proofs.Blocks.{sums_to}
 use Rattle.along.proofs.four_sums.Given as goal
 
 abbrev pub invariant-loop-i : goal.invariant-loop-i
-invariant-loop-i l = (l.i ≤ length l.x) × (l.s0 ≡ sum l.i (term l.x l.c 0)) × (l.s1 ≡ sum l.i (term l.x l.c 1)) × (l.s2 ≡ sum l.i (term l.x l.c 2)) × (l.s3 ≡ sum l.i (term l.x l.c 3))
+invariant-loop-i l = l.sums ≡ table 4 (sums_to l.i l.x l.c)
 
-abbrev pub decreases-loop-i : goal.decreases-loop-i
-decreases-loop-i l = length l.x - l.i
+abbrev pub invariant-loop-j : goal.invariant-loop-j
+invariant-loop-j l = l.sum-items ≡ table l.j (sums_to (l.i + 1) l.x l.c) ++ drop l.j (table 4 (sums_to l.i l.x l.c))

@@ -2,8 +2,8 @@
 -- Assumes nothing.
 use mathlib.Core.Path.{◌≡◌}
 use mathlib.Core.List.{◌++◌, List}
-use Prim.Native.Nat.{◌+◌, ◌-◌, ◌≤◌, ℕ, ◌*◌, ◌%◌}
-use lib.ListN.{length, drop}
+use Prim.Native.Nat.{◌+◌, ℕ, ◌*◌, ◌%◌}
+use lib.ListN.{drop}
 use Rattle.sums.specs.Table.{table, at}
 use Rattle.sums.specs.Sum.{sum}
 use Rattle.calls.proofs.fold_parts.Given as goal
@@ -13,7 +13,4 @@ abbrev pub entry : List ℕ → ℕ → ℕ → ℕ → ℕ → ℕ
 entry a step parts m k = sum parts (λ t. at a (k + t * step)) % m
 
 abbrev pub invariant-loop-k : goal.invariant-loop-k
-invariant-loop-k l = (l.k ≤ l.step) × (l.out ≡ table l.k (entry l.a l.step l.parts l.m) ++ drop l.k l.initial.out) × (length l.out ≡ length l.initial.out)
-
-abbrev pub decreases-loop-k : goal.decreases-loop-k
-decreases-loop-k l = l.step - l.k
+invariant-loop-k l = l.out ≡ table l.k (entry l.a l.step l.parts l.m) ++ drop l.k l.initial.out

@@ -1,5 +1,4 @@
 -- The goals of `calls::sum_parts` that the search leaves.
-use mathlib.Core.Path.{◌≡◌, ap}
 use mathlib.Core.List.{List}
 use Prim.Native.Nat.{ℕ, ◌+◌, ◌*◌, ◌≤◌, ◌<◌}
 use native.Mathlib.Nat.{mul-le-mul_right}
@@ -11,32 +10,23 @@ use Rattle.calls.specs.Ready.{InParts}
 use native.Mathlib.Omega.{arith}
 use Rattle.calls.proofs.sum_parts.Goals as goal
 
--- Place k of part t is in the list, and a part is no longer than the list.
-reach : {a : List ℕ} {step parts k t : ℕ} → InParts a step parts k → t < parts → (k + t * step < length a) × (step ≤ length a)
-reach {step = step} {parts = parts} p h = (omega (arith, inside _ _ _ _ p.inside h), omega (arith, mul-le-mul_right {m = 1} {n = parts} step (omega arith)))
+-- Place k of part t is in the list.
+reach : {a : List ℕ} {step parts k t : ℕ} → InParts a step parts k → t < parts → k + t * step < length a
+reach p h = omega (arith, p.whole, inside _ _ _ _ p.inside h)
 
 pub loop-t-init : goal.loop-t-init
-loop-t-init c = (omega arith, omega arith, omega (arith, sum_none))
-
-pub offset_bounds-a-i : goal.offset_bounds-a-i
-offset_bounds-a-i c = omega (arith, reach c.requires c.loop-t-test.true)
-
-pub bounds-a-i : goal.bounds-a-i
-bounds-a-i c = omega (arith, reach c.requires c.loop-t-test.true)
+loop-t-init c = omega (arith, sum_none)
 
 pub overflow_add-total : goal.overflow_add-total
 overflow_add-total c =
     let word : (j : ℕ) → at c.args.a.now j ≤ 4294967295 = λ j. omega (arith, c.type_inv.a j) in
     let few : c.args.parts ≤ length c.args.a.now = omega (arith, c.requires.whole, mul-le-mul_right {m = 1} {n = c.args.step} c.args.parts (omega (arith, c.requires.inside))) in
-    omega (arith, word c.loop-t.i, sum-le c.loop-t.t (λ j. at c.args.a.now (c.args.k + j * c.args.step)) 4294967295 (λ j. word _))
-
-pub overflow_add-i : goal.overflow_add-i
-overflow_add-i c = omega (arith, reach c.requires c.loop-t-test.true)
+    omega (
+      arith,
+      word (c.args.k + c.loop-t.t * c.args.step),
+      c.from-total.ensures,
+      sum-le c.loop-t.t (λ j. at c.args.a.now (c.args.k + j * c.args.step)) 4294967295 (λ j. word _),
+    )
 
 pub loop-t-preserved : goal.loop-t-preserved
-loop-t-preserved c = (omega arith, omega arith, omega (arith, sum_last, ap (at c.args.a.now) c.loop-t.invariant.1))
-
-pub returns : goal.returns
-returns c =
-    let e : c.loop-t.t ≡ c.args.parts = omega arith in
-    rw e at c.loop-t.invariant.2
+loop-t-preserved c = omega (arith, sum_last, c.from-total.ensures)

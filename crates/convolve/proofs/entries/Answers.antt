@@ -1,34 +1,37 @@
 -- The goals of `convolve::entries` that the search leaves.
-use Prim.Native.Nat.{◌+◌, ◌%◌}
-use mathlib.Core.Path.{refl}
+use Prim.Native.Nat.{◌+◌, ◌%◌, min}
+use mathlib.Core.Path.{◌≡◌, ◌∙◌}
+use lib.ListN.{length}
+use native.Mathlib.Nat.{mod-lt}
+use Rattle.sums.proofs.Fill.{fill_none, fill_store}
 use Rattle.along.specs.Along.{along}
-use Rattle.convolve.proofs.Output.{rows_ready, entries_are, entry_words, filled_none, filled_four, filled_all}
+use Rattle.convolve.proofs.Output.{entry_of}
 use native.Mathlib.Omega.{arith}
 use Rattle.convolve.proofs.entries.Goals as goal
+use Rattle.convolve.proofs.entries.Goals.{then-k-j, else-k-j}
 
 pub loop-k-init : goal.loop-k-init
-loop-k-init c = (filled_none _ _, refl)
+loop-k-init c =
+    let e : min 0 (length c.args.x.now) ≡ 0 = omega arith in
+    rw e (fill_none _ _)
 
-pub four_entries-q-requires : goal.four_entries-q-requires
-four_entries-q-requires c =
-    rows_ready c.args.x.now c.args.d.now c.args.m c.args.out.now (c.loop-k.k + 1) c.requires (omega arith)
+pub overflow_cast-out : goal.overflow_cast-out
+overflow_cast-out c =
+    let e = entry_of c.args.x.now c.args.d.now c.args.m c.loop-k.k c.loop-j.j c.four_entries-sums.ensures c.loop-j-test.true in
+    omega (arith, e, mod-lt (along c.args.x.now c.args.d.now (c.loop-k.k + c.loop-j.j + 1)) c.requires.positive)
 
-pub put_four-requires : goal.put_four-requires
-put_four-requires c =
-    let x = c.args.x.now in
-    let d = c.args.d.now in
-    let m = c.args.m in
-    let q = entries_are x d m c.loop-k.k c.four_entries-q.result c.four_entries-q.ensures in
-    entry_words x d m c.loop-k.k c.four_entries-q.result c.requires.positive c.ranges.m.fits (omega arith) q
-
-pub loop-k-preserved : goal.loop-k-preserved
-loop-k-preserved c =
-    let x = c.args.x.now in
-    let d = c.args.d.now in
-    let m = c.args.m in
-    let q = entries_are x d m c.loop-k.k c.four_entries-q.result c.four_entries-q.ensures in
-    (filled_four (λ i. along x d (i + 1) % m) c.loop-k.out _ c.loop-k.k _ c.put_four.ensures q c.loop-k.invariant.0, omega arith)
-
-pub returns : goal.returns
-returns c =
-    filled_all (λ i. along c.args.x.now c.args.d.now (i + 1) % c.args.m) _ _ _ (omega arith) (omega arith) c.loop-k.invariant.0
+pub loop-j-preserved : goal.loop-j-preserved
+loop-j-preserved c =
+    let n = length c.args.x.now in
+    let i = c.loop-k.k + c.loop-j.j in
+    elim c.if-k-j.branch [
+      | then-k-j w ↦
+          let here : min i n ≡ i = omega arith in
+          let next : i + 1 ≡ min (c.loop-k.k + (c.loop-j.j + 1)) n = omega arith in
+          w.out-is
+          ∙ rw (← next) (fill_store (λ t. along c.args.x.now c.args.d.now (t + 1) % c.args.m) c.args.out.now i (omega arith) (rw here at c.loop-j.invariant)
+          (entry_of c.args.x.now c.args.d.now c.args.m c.loop-k.k c.loop-j.j c.four_entries-sums.ensures c.loop-j-test.true))
+      | else-k-j w ↦
+          let next : min i n ≡ min (c.loop-k.k + (c.loop-j.j + 1)) n = omega arith in
+          w.out-is ∙ rw next at c.loop-j.invariant
+    ]

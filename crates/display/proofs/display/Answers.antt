@@ -3,7 +3,7 @@ use Rattle.display.proofs.Displaying.{displays_refusal, legal_text}
 use Rattle.display.proofs.display.Goals as goal
 
 pub display_legal-requires : goal.display_legal-requires
-display_legal-requires c = legal_text _ c.check_held.ensures c.in-Passed.is c.requires
+display_legal-requires c = legal_text _ c.check_held.ensures c.in-Ok.is c.requires
 
-pub returns-in-Refused : goal.returns-in-Refused
-returns-in-Refused c = displays_refusal _ c.check_held.ensures c.in-Refused.is c.put_refusal.ensures
+pub returns-in-Err : goal.returns-in-Err
+returns-in-Err c = displays_refusal _ c.check_held.ensures c.in-Err.is c.put_refusal.ensures

@@ -1,11 +1,7 @@
 -- `division::digit` meets its contract: p less the remainder of x z, modulo p. Assumes nothing.
 use native.Mathlib.Omega.{arith}
-use native.Mathlib.Nat.{mul-le-mul}
 use Rattle.division.proofs.Digits.{digit_is}
 use Rattle.division.proofs.digit.Goals as goal
-
-pub overflow_mul-t : goal.overflow_mul-t
-overflow_mul-t c = grind (arith, mul-le-mul)
 
 pub returns : goal.returns
 returns c = digit_is c.args.p c.args.x c.args.z _ (omega arith) (cc) (omega arith)

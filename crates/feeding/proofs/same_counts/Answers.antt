@@ -2,9 +2,9 @@
 use Rattle.feeding.proofs.Comparing.{fed_exactly, unfed_exactly}
 use Rattle.feeding.proofs.same_counts.Goals as goal
 
-pub returns-then-first_high-n : goal.returns-then-first_high-n
-returns-then-first_high-n c =
-    fed_exactly c.first_high.ensures c.requires c.if-first_high-n.true c.same.ensures
+pub returns-then-is_some : goal.returns-then-is_some
+returns-then-is_some c =
+    fed_exactly c.args.a.now c.args.b.now c.requires (cc) c.eq.ensures
 
-pub returns-else-first_high-n : goal.returns-else-first_high-n
-returns-else-first_high-n c = unfed_exactly c.first_high.ensures c.if-first_high-n.false
+pub returns-else-is_some : goal.returns-else-is_some
+returns-else-is_some c = unfed_exactly c.args.a.now c.args.b.now (cc) c.if-is_some.false

@@ -1,15 +1,9 @@
--- `feeding::unmix` meets its contract: what its check finds decides, and where it finds nothing counting does. Assumes nothing.
-use mathlib.Core.Path.{refl, sym, ◌∙◌}
-use Rattle.feeding.proofs.Unmixing.{unmix_ready, unmix_answered}
+-- The goal of `feeding::unmix` that the search leaves: what it has been given where no check refuses.
+use mathlib.Core.Path.{sym}
+use Rattle.pattern.proofs.Granted.{unmix_granted}
 use Rattle.feeding.proofs.unmix.Goals as goal
 
 pub count-requires : goal.count-requires
 count-requires c =
-    unmix_ready (sym c.check_unmix-check.ensures ∙ c.in-Passed.is)
-
-pub returns-in-Passed : goal.returns-in-Passed
-returns-in-Passed c =
-    unmix_answered (sym c.check_unmix-check.ensures ∙ c.in-Passed.is) c.count.ensures c.inversion_answer.ensures
-
-pub returns-in-Refused : goal.returns-in-Refused
-returns-in-Refused c = record { meets = (sym c.check_unmix-check.ensures ∙ c.in-Refused.is, refl) }
+    let given = unmix_granted _ _ _ (sym c.in_ok-check_unmix.ensures) in
+    record { granted = given.0; long = given.1 }

@@ -1,4 +1,6 @@
 -- `invert::join_power` meets its contract: the moduli share no factor, so there is an inverse of the one modulo the other. Assumes nothing.
+use Rattle.modular.proofs.Inverses.{inverse_there}
+use Rattle.invert.proofs.Steps.{apart_found}
 use Rattle.invert.proofs.join_power.Goals as goal
 
 pub join-requires : goal.join-requires
@@ -7,11 +9,7 @@ join-requires c =
     record {
       limit = pre.limit;
       some = pre.some;
-      inverse = (c.inverse.ensures.inverse _).0 c.in-Inverse.is;
+      inverse = rw c.unwrap_or-z.ensures (inverse_there _ c.inverse.ensures (apart_found pre.apart c.inverse.ensures));
       ring = pre.ring;
       ring' = pre.ring';
     }
-
-pub returns-in-Shares : goal.returns-in-Shares
-returns-in-Shares c =
-    absurd (c.requires.apart _ ((c.inverse.ensures.shares _).0 c.in-Shares.is))

@@ -1,32 +1,31 @@
 -- The goals of `invert::solve` that the search leaves.
-use mathlib.Core.Path.{refl}
-use Rattle.invert.proofs.Steps.{same_lists, walk_start, walk-next, walk-joined, walk_dark, walk_end}
-use native.Mathlib.Omega.{arith}
+use Rattle.std.proofs.Common.{arith, length-append, None, refl}
+use Rattle.std.proofs.lemmas.Result.{err_from_is_err_and}
+use Rattle.std.proofs.lemmas.Slice.Zip.{zip_end}
+use Rattle.invert.proofs.Steps.{turned, same_lists, walk_start, walk-next, walk-joined, walk_dark, walk_end}
 use Rattle.invert.proofs.solve.Goals as goal
 
-pub loop-i-init : goal.loop-i-init
-loop-i-init c =
-    (omega arith, refl, walk_start c.requires c.clear.ensures)
-
-pub bounds-exponents-i : goal.bounds-exponents-i
-bounds-exponents-i c =
-    omega (arith, same_lists c.requires)
+pub loop-p-init : goal.loop-p-init
+loop-p-init c = ((tt, tt), tt, refl, walk_start c.requires (c.fill.ensures.after (λ y e. e)))
 
 pub next_power-requires : goal.next_power-requires
 next_power-requires c =
-    walk-next c.requires c.loop-i.i c.loop-i-test.true c.loop-i.invariant.1 c.loop-i.invariant.2
+    let inv = c.loop-p.invariant in
+    walk-next c.requires (turned c.loop-p.yielded c.into_iter-p-iterator.result c.loop-p.p-iterator c.next.new.self (c.in-Some.field-0-0, c.in-Some.field-0-1) (cc) (cc) c.loop-p.yielded_by c.in-Some.ensures.steps c.from.ensures) inv.2 inv.3
 
-pub loop-i-preserved : goal.loop-i-preserved
-loop-i-preserved c =
-    let inv = c.loop-i.invariant in
-    let walked = walk-joined c.requires c.loop-i.i c.loop-i-test.true inv.1 inv.2 c.next_power.ensures c.in-Joined.is in
-    (omega arith, walked.0, walked.1)
+pub returns-in_err-big : goal.returns-in_err-big
+returns-in_err-big c =
+    let inv = c.loop-p.invariant in
+    let told = err_from_is_err_and c.from_residual.result c.from_residual.ensures.1 in
+    rw (told.1, told.2) (walk_dark c.requires (turned c.loop-p.yielded c.into_iter-p-iterator.result c.loop-p.p-iterator c.next.new.self (c.in-Some.field-0-0, c.in-Some.field-0-1) (cc) (cc) c.loop-p.yielded_by c.in-Some.ensures.steps c.from.ensures) inv.2 inv.3 c.in_err-big.ensures)
 
-pub returns-in-Dark : goal.returns-in-Dark
-returns-in-Dark c =
-    let inv = c.loop-i.invariant in
-    walk_dark c.requires c.loop-i.i c.loop-i-test.true inv.1 inv.2 c.next_power.ensures c.in-Dark.is
+pub loop-p-preserved : goal.loop-p-preserved
+loop-p-preserved c =
+    let inv = c.loop-p.invariant in
+    let walked = walk-joined c.requires (turned c.loop-p.yielded c.into_iter-p-iterator.result c.loop-p.p-iterator c.next.new.self (c.in-Some.field-0-0, c.in-Some.field-0-1) (cc) (cc) c.loop-p.yielded_by c.in-Some.ensures.steps c.from.ensures) inv.2 inv.3 c.in_ok-big.ensures in
+    ((tt, tt), tt, simp length-append walked.0, walked.1)
 
 pub returns : goal.returns
 returns c =
-    walk_end c.requires c.loop-i.i (omega arith) c.loop-i.invariant.1 c.loop-i.invariant.2
+    let end = zip_end c.args.m.primes.now c.args.m.exponents.now c.loop-p.yielded c.into_iter-p-iterator.result c.loop-p.p-iterator c.next.new.self None (cc) (cc) c.loop-p.yielded_by refl c.in-None.ensures.steps in
+    walk_end c.requires _ (omega (arith, same_lists c.requires)) c.loop-p.invariant.2 c.loop-p.invariant.3

@@ -1,30 +1,11 @@
 -- The goals of `lift::twice_less` that the search leaves.
-use mathlib.Core.Path.{◌≡◌, refl, ◌∙◌}
-use lib.ListN.{length, length-set}
-use Rattle.sums.proofs.Fill.{fill_none, fill_all, fill_read, fill_store}
+use mathlib.Core.Path.{refl}
+use Rattle.sums.proofs.Fill.{fill_none, fill_read, fill_store}
 use native.Mathlib.Omega.{arith}
 use Rattle.lift.proofs.twice_less.Goals as goal
 
 pub loop-k-init : goal.loop-k-init
-loop-k-init c = (omega arith, fill_none _ _, refl)
-
-pub overflow_mul-g : goal.overflow_mul-g
-overflow_mul-g c = omega (arith, fill_read _ _ _ (omega arith) c.loop-k.invariant.1, c.requires.low_g c.loop-k.k)
-
-pub overflow_sub-g : goal.overflow_sub-g
-overflow_sub-g c = omega (arith, c.requires.low_h c.loop-k.k)
-
-pub overflow_add-g : goal.overflow_add-g
-overflow_add-g c = omega (arith, fill_read _ _ _ (omega arith) c.loop-k.invariant.1, c.requires.low_g c.loop-k.k)
+loop-k-init c = fill_none _ _
 
 pub loop-k-preserved : goal.loop-k-preserved
-loop-k-preserved c = (
-  omega arith,
-  fill_store _ _ _ (omega arith) c.loop-k.invariant.1 (rw (fill_read _ _ _ (omega arith) c.loop-k.invariant.1) refl),
-  simp length-set c.loop-k.invariant.2,
-)
-
-pub returns : goal.returns
-returns c =
-    let e : c.loop-k.k ≡ length c.args.g.now = omega arith in
-    rw e at (c.loop-k.invariant.1 ∙ fill_all _ _ _ e)
+loop-k-preserved c = fill_store _ _ _ (omega arith) c.loop-k.invariant (rw (fill_read _ _ _ (omega arith) c.loop-k.invariant) refl)

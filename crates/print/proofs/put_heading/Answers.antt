@@ -1,27 +1,17 @@
--- `print::put_heading` meets its contract: its four pieces, one after the other. Assumes nothing.
-use mathlib.Core.List.{[], ◌∷◌, ◌++◌}
-use Rattle.lines.specs.Items.{number, text}
-use Rattle.lines.specs.Lines.{after, newline}
-use Rattle.lines.proofs.Putting.{room-first, room_next, puts_append}
-use Rattle.print.proofs.Pieces.{after_two, after_three}
+-- The goals of `print::put_heading` that the search leaves: its four pieces, one after the other.
+use Rattle.lines.specs.Lines.{newline}
+use Rattle.lines.proofs.Putting.{room-first, room_next}
+use Rattle.lines.proofs.Writing.{writes_append}
 use Rattle.print.proofs.put_heading.Goals as goal
 
-pub put_word-start-requires : goal.put_word-start-requires
-put_word-start-requires c = room-first _ (after (number c.args.n ∷ text "modulus" ∷ number c.args.m ∷ []) ++ newline) c.requires
+pub named-requires : goal.named-requires
+named-requires c =
+    room-first _ newline (room_next _ _ (room_next _ _ (rw (← c.from.ensures) at c.requires) c.word.ensures.puts) c.number.ensures.puts)
 
-pub put_number-next-requires : goal.put_number-next-requires
-put_number-next-requires c =
-    rw c.as_number-entries.ensures (room-first _ (after (text "modulus" ∷ number c.args.m ∷ []) ++ newline) (room_next _ _ c.requires c.put_word-start.ensures))
-
-pub put_named-end-requires : goal.put_named-end-requires
-put_named-end-requires c =
-    room-first _ newline (after_two _ _ _ (rw (← c.as_number-entries.ensures, ← c.wide-modulus.ensures) at c.requires) c.put_word-start.ensures c.put_number-next.ensures)
-
-pub put_word-requires : goal.put_word-requires
-put_word-requires c =
-    after_three _ _ _ _ (rw (← c.as_number-entries.ensures, ← c.wide-modulus.ensures) at c.requires) c.put_word-start.ensures c.put_number-next.ensures c.put_named-end.ensures
+pub word-requires-2 : goal.word-requires-2
+word-requires-2 c =
+    room_next _ newline (room_next _ _ (room_next _ _ (rw (← c.from.ensures) at c.requires) c.word.ensures.puts) c.number.ensures.puts) c.named.ensures.puts
 
 pub returns : goal.returns
 returns c =
-    rw (← c.as_number-entries.ensures, ← c.wide-modulus.ensures)
-    (puts_append c.put_word-start.ensures (puts_append c.put_number-next.ensures (puts_append c.put_named-end.ensures c.put_word.ensures)))
+    rw (← c.from.ensures) (writes_append c.word.ensures (writes_append c.number.ensures (writes_append c.named.ensures c.word-2.ensures)))

@@ -1,14 +1,22 @@
--- `print::put_inverse` meets its contract: the heading and the line, one after the other. Assumes nothing.
-use mathlib.Core.List.{append-nil}
-use Rattle.lines.proofs.Putting.{room-first, room_next, puts_append}
-use Rattle.page.specs.Page.{inverse_line}
+-- The goals of `print::put_inverse` that the search leaves: its three pieces, one after the other.
+use borrow.Author.Rules.{rules}
+use mathlib.Core.List.{◌++◌}
+use Rattle.lines.proofs.Putting.{room-first, room_next}
+use Rattle.lines.proofs.Writing.{room_new, writes_append}
+use Rattle.page.specs.Page.{inverse_line, counts_line}
+use Rattle.sheet.specs.Held.{lent}
 use Rattle.print.proofs.put_inverse.Goals as goal
 
-pub put_heading-start-requires : goal.put_heading-start-requires
-put_heading-start-requires c = room-first _ (inverse_line c.args.inverse.now) (rw append-nil at c.requires)
+pub line-requires : goal.line-requires
+line-requires c =
+    let counts = counts_line (lent c.args.counts) in
+    room-first _ counts (room_next _ (inverse_line c.args.inverse.now ++ counts) (room_new c.new-text.ensures.same_bytes c.new-text.ensures.empty c.requires) c.put_heading.ensures.puts)
 
-pub put_line-requires : goal.put_line-requires
-put_line-requires c = room_next _ _ (rw append-nil at c.requires) c.put_heading-start.ensures
+pub put_counts-requires : goal.put_counts-requires
+put_counts-requires c =
+    room_next _ _ (room_next _ _ (room_new c.new-text.ensures.same_bytes c.new-text.ensures.empty c.requires) c.put_heading.ensures.puts) c.line.ensures.puts
 
 pub returns : goal.returns
-returns c = rw append-nil (puts_append c.put_heading-start.ensures c.put_line.ensures)
+returns c =
+    let all = writes_append c.put_heading.ensures (writes_append c.line.ensures c.put_counts.ensures) in
+    search rules

@@ -1,10 +1,7 @@
--- `report::report` meets its contract: a buffer without room is left alone. Assumes nothing.
-use mathlib.Core.Path.{refl}
+-- The goal of `report::report` that the search leaves: of a sheet that is refused, the refusal is the text.
 use native.Mathlib.Omega.{arith}
+use Rattle.report.proofs.Reading.{reports_refused}
 use Rattle.report.proofs.report.Goals as goal
 
-pub returns-then-text-lt-TEXT_ROOM : goal.returns-then-text-lt-TEXT_ROOM
-returns-then-text-lt-TEXT_ROOM c = record { prints = λ h. absurd (omega arith); leaves = λ h. (refl, refl) }
-
-pub returns : goal.returns
-returns c = record { prints = λ h. c.report_read.ensures; leaves = λ h. absurd (omega arith) }
+pub returns-in-Err : goal.returns-in-Err
+returns-in-Err c = reports_refused _ c.read.ensures c.in-Err.is (omega arith) c.put_refusal.ensures

@@ -1,15 +1,9 @@
 -- `rows::plus_near` meets its contract: q p is taken away from x + t, and less than 3 p is left. Assumes nothing.
 use Prim.Native.Nat.{ℕ, ◌/◌, ◌%◌, ◌^◌}
 use mathlib.Core.Path.{sym, ap, ◌∙◌}
-use native.Mathlib.Nat.{mul-le-mul, mul-add-mod_self_right}
+use native.Mathlib.Nat.{mul-add-mod_self_right}
 use native.Mathlib.Omega.{arith}
 use Rattle.rows.proofs.plus_near.Goals as goal
-
-pub overflow_add-z : goal.overflow_add-z
-overflow_add-z c = grind (arith, mul-le-mul)
-
-pub overflow_mul-q : goal.overflow_mul-q
-overflow_mul-q c = grind (arith, mul-le-mul)
 
 pub returns : goal.returns
 returns c =

@@ -1,32 +1,14 @@
--- The goals of `sheet::exponents_of` that the search leaves.
-use mathlib.Core.Path.{◌≡◌, refl}
-use lib.ListN.{length, length-set}
-use Rattle.sums.proofs.Fill.{fill_none, fill_step, fill_all}
+-- `sheet::exponents_of` meets its contract: an exponent is the last of the bytes of its entry. Assumes nothing.
+use Rattle.std.proofs.Common.{◌≡◌, ℕ, List, ap, ◌∙◌, rules}
+use Rattle.sums.specs.Table.{at}
 use Rattle.sheet.specs.Entries.{exponent_of}
-use Rattle.sheet.proofs.Entries.{holds_entry}
-use borrow.Author.Rules.{rules}
-use native.Mathlib.Omega.{arith}
+use Rattle.sheet.proofs.Entries.{are_table, exponent_in}
 use Rattle.sheet.proofs.exponents_of.Goals as goal
-
-pub loop-i-init : goal.loop-i-init
-loop-i-init c = (omega arith, fill_none _ _, refl)
-
-pub overflow_mul-at : goal.overflow_mul-at
-overflow_mul-at c = let inside = holds_entry c.loop-i.i c.requires (omega arith) in search rules
-
-pub overflow_add-out : goal.overflow_add-out
-overflow_add-out c = let inside = holds_entry c.loop-i.i c.requires (omega arith) in search rules
-
-pub bounds-part-at : goal.bounds-part-at
-bounds-part-at c = let inside = holds_entry c.loop-i.i c.requires (omega arith) in search rules
-
-pub loop-i-preserved : goal.loop-i-preserved
-loop-i-preserved c =
-    let given = c.args in
-    (omega arith, cc (fill_step (exponent_of given.part.now) given.out.now c.loop-i.i (omega arith)), simp length-set (omega arith))
 
 pub returns : goal.returns
 returns c =
-    let given = c.args in
-    let e : c.loop-i.i ≡ length given.out.now = omega arith in
-    cc (fill_all (exponent_of given.part.now) given.out.now c.loop-i.i e)
+    are_table (exponent_of c.args.part.now) c.args.out.now c.read_entries.new.out c.read_entries.auto.out _ c.read_entries.ensures
+    (λ i x h r.
+    let met = r.says.met in
+    let read : x ≡ at r.shown.now 4 = search rules in
+    read ∙ ap (λ (l : List ℕ). at l 4) r.shows ∙ exponent_in c.args.part.now i)

@@ -1,29 +1,14 @@
--- The goals of `sheet::numbers_of` that the search leaves.
-use mathlib.Core.Path.{◌≡◌, refl}
-use lib.ListN.{length, length-set}
-use Rattle.sums.proofs.Fill.{fill_none, fill_step, fill_all}
+-- `sheet::numbers_of` meets its contract: a number is the same in the bytes of its own. Assumes nothing.
+use Rattle.std.proofs.Common.{◌≡◌, ℕ, List, ap, ◌∙◌, rules}
+use Rattle.octets.specs.Numbers.{big_endian}
 use Rattle.sheet.specs.Entries.{number_of}
-use Rattle.sheet.proofs.Entries.{holds_entry}
-use borrow.Author.Rules.{rules}
-use native.Mathlib.Omega.{arith}
+use Rattle.sheet.proofs.Entries.{are_table, number_in}
 use Rattle.sheet.proofs.numbers_of.Goals as goal
-
-pub loop-i-init : goal.loop-i-init
-loop-i-init c = (omega arith, fill_none _ _, refl)
-
-pub overflow_mul-at : goal.overflow_mul-at
-overflow_mul-at c = let inside = holds_entry c.loop-i.i c.requires (omega arith) in search rules
-
-pub number_at-requires : goal.number_at-requires
-number_at-requires c = omega (arith, holds_entry c.loop-i.i c.requires (omega arith), c.requires.wide)
-
-pub loop-i-preserved : goal.loop-i-preserved
-loop-i-preserved c =
-    let given = c.args in
-    (omega arith, cc (fill_step (number_of given.step given.part.now) given.out.now c.loop-i.i (omega arith), c.number_at.ensures), simp length-set (omega arith))
 
 pub returns : goal.returns
 returns c =
-    let given = c.args in
-    let e : c.loop-i.i ≡ length given.out.now = omega arith in
-    cc (fill_all (number_of given.step given.part.now) given.out.now c.loop-i.i e)
+    are_table (number_of c.args.step c.args.part.now) c.args.out.now c.read_entries.new.out c.read_entries.auto.out _ c.read_entries.ensures
+    (λ i x h r.
+    let met = r.says.met in
+    let read : x ≡ big_endian 4 r.shown.now 0 = search rules in
+    read ∙ ap (λ (l : List ℕ). big_endian 4 l 0) r.shows ∙ number_in c.args.part.now c.args.step i c.requires.wide)

@@ -1,11 +1,8 @@
 -- `modular::factor::times_power` meets its contract. The loop's invariant: the product is x p^k; it is at most m where it is multiplied, so it fits.
--- The measure is what is left of the exponent. Assumes nothing.
-use Prim.Native.Nat.{◌*◌, ◌-◌, ◌^◌, ◌≤◌}
+-- Assumes nothing.
+use Prim.Native.Nat.{◌*◌, ◌^◌}
 use mathlib.Core.Path.{◌≡◌}
 use Rattle.modular.proofs.factor.times_power.Given as goal
 
 abbrev pub invariant-loop-k : goal.invariant-loop-k
-invariant-loop-k l = (l.k ≤ l.e) × (l.product ≡ l.x * l.p ^ l.k)
-
-abbrev pub decreases-loop-k : goal.decreases-loop-k
-decreases-loop-k l = l.e - l.k
+invariant-loop-k l = l.product ≡ l.x * l.p ^ l._k

@@ -1,19 +1,10 @@
 -- The goals of `modular::inverse::inverse` that the search leaves.
-use Rattle.modular.proofs.Divisions.{dividing_start, end_inverse, end_shares, half_low, half_inverse, half_shares, full_low, full_next, full_less}
+use Rattle.modular.proofs.Divisions.{dividing_start, end_inverse, end_shares, half_inverse, half_shares, full_low, full_next}
 use native.Mathlib.Omega.{arith}
 use Rattle.modular.proofs.inverse.inverse.Goals as goal
 
 pub loop-b-init : goal.loop-b-init
 loop-b-init c = dividing_start c.args.m c.args.y c.requires
-
-pub overflow_mul-t : goal.overflow_mul-t
-overflow_mul-t c = omega (arith, half_low c.loop-b.invariant (omega arith))
-
-pub overflow_add-t : goal.overflow_add-t
-overflow_add-t c = omega (arith, half_low c.loop-b.invariant (omega arith))
-
-pub overflow_sub-result : goal.overflow_sub-result
-overflow_sub-result c = half_low c.loop-b.invariant (omega arith)
 
 pub returns-then-a-eq1 : goal.returns-then-a-eq1
 returns-then-a-eq1 c = half_inverse c.loop-b.invariant c.loop-b-test.true c.if-a-eq1.true
@@ -26,9 +17,6 @@ overflow_mul-s c = omega (arith, full_low c.loop-b.invariant (omega arith))
 
 pub overflow_add-s : goal.overflow_add-s
 overflow_add-s c = omega (arith, full_low c.loop-b.invariant (omega arith))
-
-pub loop-b-smaller : goal.loop-b-smaller
-loop-b-smaller c = full_less c.loop-b.invariant (omega arith) (omega arith)
 
 pub loop-b-preserved : goal.loop-b-preserved
 loop-b-preserved c = full_next c.loop-b.invariant (omega arith)

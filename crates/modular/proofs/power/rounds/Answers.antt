@@ -1,11 +1,7 @@
 -- `modular::power::rounds` meets its contract: the binary digits of k - 1 are the rounds. Assumes nothing.
-use lib.Count.{leading_le}
 use Rattle.modular.proofs.Doublings.{rounds_digits}
 use native.Mathlib.Omega.{arith}
 use Rattle.modular.proofs.power.rounds.Goals as goal
-
-pub overflow_sub-result-2 : goal.overflow_sub-result-2
-overflow_sub-result-2 c = leading_le 32 _
 
 pub returns : goal.returns
 returns c = rounds_digits c.args.k (omega arith) (omega arith)
