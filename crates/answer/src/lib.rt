@@ -46,6 +46,7 @@ pub struct Row {
     pub told: Told,
 }
 
+// By hand: ring and place beside the case, and not in its variants: `refusal_row` says once which of them a number tells.
 // A refusal, with the ring and the place that it tells; 0 where it tells none. That of an entry of a factor list has the entry's place, a sheet's its offset.
 #[derive(Clone, Copy, Debug, PartialEq, Eq)]
 pub struct Refusal {

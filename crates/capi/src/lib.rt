@@ -82,6 +82,7 @@ pub extern "C" fn dowelbrook_unmix(
 }
 
 // A reply, and whether the feedings are the same: 1 or 0.
+// By hand: yes and no in a number, and beside it the reply's fields, as C has them.
 #[repr(C)]
 #[derive(Clone, Copy)]
 pub struct Judgement {
@@ -137,6 +138,7 @@ pub extern "C" fn dowelbrook_same_feeding(
 }
 
 // What a sheet holds and where, or the refusal in the paper's numbers. Offsets count from the sheet's first byte.
+// By hand: whether there are readings in a number, with 0 for parts that there are not, as C has them.
 #[repr(C)]
 #[derive(Clone, Copy, Default)]
 pub struct SheetReply {

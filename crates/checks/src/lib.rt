@@ -55,6 +55,7 @@ pub fn check_coefficient(a: &[u32], m: u32, ring: usize) -> Result<(), Refusal>
     }
 }
 
+// By hand: beside `check_mismatch`, since each definition of a check has its function.
 pub fn check_room(n: usize, len: usize) -> Result<(), Refusal>
     ensures { result ≡ room n len }
 {
@@ -95,6 +96,7 @@ pub fn check_coefficients(a: &[u32], others: &[&[u32]], m: u32) -> Result<(), Re
     ensures { result ≡ first (coefficients m 1 (a.now ∷ lent others.now)) }
 {
     check_coefficient(a, m, 1)?;
+    // By hand: as `check_lengths` goes; a closure's `F.post` would be as long as this loop.
     for (i, b) in others.iter().enumerate() {
         check_coefficient(b, m, i + 2)?;
     }

@@ -67,6 +67,7 @@ fn lay_around(b: &[u32], d: &mut [u64])
 {
     let n = b.len();
     lay_once(b, d);
+    // By hand: an entry comes from the same slice, n places before, and no iterator lends both.
     for j in n..d.len() {
         d[j] = d[j - n];
     }

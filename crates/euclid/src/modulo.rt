@@ -3,6 +3,7 @@ ghost use Rattle.modular.specs.PrimeTest.{prime?};
 ghost use Rattle.rows.specs.Row.{most_row_modulus};
 
 // A modulus that rows of words take. prime: it is known to be a prime.
+// By hand: a flag and not two types, since modulo either one Euclid is the same but for the inverse of a leading number.
 #[derive(Clone, Copy)]
 pub struct Modulus {
     pub value: u32,

@@ -4,7 +4,7 @@ use Prim.Native.Nat.{ℕ, ◌<◌, ◌≤◌}
 use mathlib.Core.Path.{◌≡◌, refl, sym, ap, ◌∙◌}
 use mathlib.Core.Logic.{◌↔◌}
 use mathlib.Core.Bool.{Bool, true, false, cond, true≢false}
-use mathlib.Core.List.{List}
+use mathlib.Core.List.{List, []}
 use native.Mathlib.Omega.{arith}
 use borrow.Author.Tests.{ltb-true, ltb-false}
 use lib.Dec.{eqb, leb}
@@ -20,6 +20,15 @@ use Rattle.checks.specs.Checks.{first_high}
 use Rattle.pattern.specs.Sent.{Sent}
 use Rattle.pattern.specs.Same.{Same}
 use Rattle.pattern.specs.Counts.{Unmixed}
+use Rattle.answer.specs.First.{first}
+use Rattle.answer.specs.Check.{Check}
+use Rattle.answer.specs.Answer.{Answer}
+use Rattle.answer.specs.Contract.{Meets}
+use Rattle.answer.specs.declared.Failure.TheVariants.{Singular, Refused}
+use Rattle.answer.proofs.Firsts.{passed_refused}
+use Rattle.factors.specs.Factored.{Factored}
+use Rattle.pattern.specs.Promises.{same_order, Compared, NamesRing, SameFeeding}
+use Rattle.feeding.specs.Told.{Verdict, answer_in, yes}
 use Rattle.invert.specs.Inversions.{Inversion}
 use Rattle.feeding.specs.Unmixings.{Counted}
 use Rattle.feeding.specs.Inner.{Judged}
@@ -68,3 +77,15 @@ pub compared : {s₁ s₂ : Sent} {m : ℕ} {old₁ c₁ old₂ c₂ : List ℕ}
 compared {found₁ = found₁} {found₂} k₁ done₁ k₂ done₂ exactly =
     let u₁ = counts_of found₁ done₁ k₁ in
     record { meets = (refl, record { counts₁ = _; counts₂ = _; unmixed₁ = u₁; unmixed₂ = counts_of found₂ done₂ k₂; exactly = rw u₁.counts.ring.long at exactly }) }
+
+-- ---- the call
+
+-- A contract that holds with no check left holds where no check refuses.
+meets : {R : Type 0} (checks : List Check) (done : R → Type 0) (singular : ℕ → ℕ → R → Type 0) (stays : R) → first checks ≡ Ok tt → (a : Answer) (x : R) → Meets [] done singular stays a x → Meets checks done singular stays a x
+meets checks done singular stays e (Ok _) x h = (e, h.1)
+meets checks done singular stays e (Err (Singular r p)) x h = (e, h.1)
+meets checks done singular stays e (Err (Refused r)) x h = absurd (passed_refused refl h.0)
+
+pub judged_feeding : {s₁ s₂ : Sent} {M : Factored} {v : Verdict} → first (same_order s₁ s₂ M) ≡ Ok tt → Judged M.modulus s₁ s₂ v → SameFeeding s₁ s₂ M (answer_in v) (yes v)
+judged_feeding {s₁} {s₂} {M} {v} e j =
+    record { meets = meets (same_order s₁ s₂ M) (Compared M.modulus s₁ s₂) (NamesRing M.modulus s₁ s₂) false e (answer_in v) (yes v) j.meets }

@@ -75,7 +75,7 @@ impl TryFrom<u8> for Tag {
     }
 }
 
-// The fields that have come: the last one's tag, 0 before any, and where each one's value lies.
+// The fields that have come: the last one's tag, 0 before any as `last_tag` has it, and where each one's value lies.
 // By hand: contracts say `WhenKept` of the list of fields. As the model of this struct that list could be read off the parts only where tags rise, and `with` would ask for that, which it never did.
 #[derive(Clone, Copy, Debug, PartialEq, Eq)]
 pub struct Fields {
@@ -139,7 +139,7 @@ fn lacks(tag: Tag, part: Option<Part>, bound: usize) -> bool
 }
 
 // The header of the field at an offset, where it is whole. It judges nothing.
-// By hand: an offset and no slice from there on, since a refusal tells it and `header` is stated by it.
+// By hand: an offset and no slice from there on, since `header` is stated by it, and the walk tells it in its refusals.
 pub fn header_at(bytes: &[u8], at: usize) -> Option<Header>
     requires { at ≤ length bytes.now }
     ensures { result ≡ header bytes.now at }
@@ -176,6 +176,7 @@ fn suits(tag: Tag, len: usize, found: Fields) -> bool
 }
 
 // The checks of a field with a whole header, in document 01's order.
+// By hand: bytes and offset, since the refusals tell the offset.
 #[tactic(auto, using(crate::proofs::Table::unknown_tag), unfolding(crate::specs::Checks::value_order))]
 pub fn check_value(bytes: &[u8], at: usize, header: Header, found: Fields) -> Check
     requires { at + header_bytes ≤ length bytes.now }

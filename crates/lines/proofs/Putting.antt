@@ -1,9 +1,10 @@
 -- Items written one after another stand as all of them together, and the room for all is room for the first and, after them, for the others. What is
 -- written later stands behind what was written before. Assumes nothing.
-use Prim.Native.Nat.{ℕ, ◌^◌, ◌≤◌, ◌<◌}
-use mathlib.Core.Path.{◌≡◌, refl, subst}
+use Prim.Native.Nat.{ℕ, zero, suc, ◌-◌, ◌/◌, ◌^◌, ◌≤◌, ◌<◌}
+use mathlib.Core.Path.{◌≡◌, refl, ap, subst}
 use mathlib.Core.List.{List, [], ◌∷◌, ◌++◌}
 use native.Mathlib.Omega.{arith}
+use native.Mathlib.Nat.{pow-zero, pow-suc}
 use lib.ListN.{length}
 use Rattle.lines.specs.Put.{PutsBytes}
 use Rattle.lines.proofs.Bytes.{bytes-length, bytes-append, one-bytes}
@@ -51,6 +52,16 @@ room_next items more r p =
       low = parts.1;
       inside = omega (arith, r.inside, most-append r.places items more, p.stands.ends, puts_length p, spells_short r.places items p.spelling r.some parts.0 p.spells);
     }
+
+-- ---- a number without its last digit
+
+tenth : {x : ℕ} (k : ℕ) → 10 ≤ x → x < 10 ^ k → (1 < k) × (x / 10 < 10 ^ (k - 1))
+tenth zero h low = absurd (omega (arith, pow-zero 10))
+tenth (suc zero) h low = absurd (omega (arith, pow-zero 10, pow-suc 10 zero))
+tenth (suc (suc k)) h low = (omega arith, omega (arith, pow-suc 10 (suc k), ap (λ (j : ℕ). 10 ^ j) {x = suc (suc k) - 1} {y = suc k} (omega arith)))
+
+pub room_tenth : {x o : ℕ} {old : List ℕ} → 10 ≤ x → Room (number x ∷ []) o old → Room (number (x / 10) ∷ []) o old
+room_tenth h r = let low = tenth r.places h r.low.0 in record { places = r.places - 1; some = omega arith; low = (low.1, tt); inside = omega (arith, r.inside) }
 
 -- ---- numbers
 

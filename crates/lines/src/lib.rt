@@ -9,6 +9,7 @@ ghost use Rattle.lines.specs.Lines.{after, line};
 use itoa::Buffer;
 
 // A lent buffer, and where the text in it ends.
+// By hand: methods and no `write!`, which may fail by the contract of `fmt::Write`, and that does not say when.
 #[derive(Drop)]
 pub struct Text<'a> {
     buffer: &'a mut [u8],

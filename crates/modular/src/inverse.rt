@@ -46,7 +46,7 @@ pub fn inverse_mod_prime(y: u32, p: u32) -> u32
 }
 
 // What is found of the inverse of a leading number. prime: the modulus is known to be a prime.
-// By hand: a flag and no `impl Fn`, since what it stands for is a fact (`Lead` and `Modulus` state it), and Euclid would be compiled once for each way.
+// By hand: a flag and no `impl Fn`, since what it stands for is a fact: `Lead` and `Modulus` state it once, where `F.post` would stand in each of Euclid's contracts.
 pub fn lead_inverse(y: u32, m: u32, prime: bool) -> Result<u32, Shares>
     requires { Lead m y prime }
     ensures { Finds m y result }

@@ -1,4 +1,5 @@
 // Numbers in the bytes of a slice.
+// By hand: at an offset and not of a slice from there on, since `big_endian` is stated so, by which the grammar of sheets is.
 #![tactic(auto, unfolding(crate::specs::Numbers::big_endian))]
 
 ghost use Rattle.std.specs.Prelude.{◌≡◌, ◌+◌, ◌≤◌, length};
