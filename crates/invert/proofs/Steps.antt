@@ -20,13 +20,13 @@ use Rattle.sums.specs.Table.{at, table}
 use Rattle.limits.specs.Limits.{most_modulus}
 use Rattle.modular.specs.Finds as finds
 use Rattle.modular.specs.declared.inverse.Shares.{Shares}
-use Rattle.modular.proofs.Factors.{Listed, listed, rising_same}
+use Rattle.modular.proofs.Factors.{listed, rising_same}
 use Rattle.ring.specs.One.{zeros}
 use Rattle.ring.specs.Inverse.{Inverse, Invertible}
 use Rattle.ring.proofs.Glue.{inverse_none}
 use Rattle.euclid.specs.Answer.{Answers, Solvable}
 use Rattle.euclid.specs.declared.Shared.{Shared}
-use Rattle.lift.specs.Asks.{Liftable}
+use Rattle.lift.specs.declared.power.Power.{Power}
 use Rattle.factors.specs.Factored.{Factored}
 use Rattle.pattern.specs.Singular.{Singular}
 use Rattle.pattern.proofs.Link.{reduced_ring, inverse_series}
@@ -37,31 +37,26 @@ use Rattle.invert.specs.Inversions.{CanInvert}
 use Rattle.invert.specs.Inner.{PrimePower, PowerFound, Apart, NextPower, Progressed, Solved}
 use Rattle.invert.specs.declared.Ghost.{Ghost}
 
--- ---- modulo p, and modulo p^k
+-- ---- modulo p, and modulo its power
 
-module _ {f out : List ℕ} {p k top : ℕ} (pre : PrimePower f p k top out) where
-  -- p is at most p^k.
+module _ {f out : List ℕ} {power : Power} (pre : PrimePower f power out) where
+  abbrev p : ℕ
+  p = power.prime
+
+  -- p is at most its power.
   low : p ≤ most_modulus
   low =
-      let least = pow-le-pow_right {n = p} (omega (arith, pre.prime.two)) pre.exponent in
-      omega (arith, least, pow-suc p 0, ap (λ (x : ℕ). x * p) (pow-zero p), pre.power, pre.limit)
+      let least = pow-le-pow_right {n = p} (omega (arith, pre.prime.two)) power.some in
+      omega (arith, least, pow-suc p 0, ap (λ (x : ℕ). x * p) (pow-zero p), power.is, power.limit)
 
   pub solvable : Solvable p f out
   solvable = record { sizes = record { prime = pre.prime; word = omega (arith, low); some = pre.some; most = pre.few }; room = pre.long }
 
   module _ {new : List ℕ} where
-    pub liftable : {u : Unit {0}} → Answers (length f) p (at f) new (Ok u) → Liftable f new p k top
-    liftable a = record {
-      prime = pre.prime.two;
-      exponent = pre.exponent;
-      power = pre.power;
-      limit = pre.limit;
-      some = pre.some;
-      few = pre.few;
-      inverse = (inverse_series (length f) p pre.prime.two pre.some f new refl (reduced_ring (length f) p new a.long a.reduced)).1 a.means;
-    }
+    pub inverted : {u : Unit {0}} → Answers (length f) p (at f) new (Ok u) → Inverse (length f) p f new
+    inverted a = (inverse_series (length f) p pre.prime.two pre.some f new refl (reduced_ring (length f) p new a.long a.reduced)).1 a.means
 
-    pub haunting : {s : Shared} → Answers (length f) p (at f) new (Err s) → PowerFound f p k new (Err s)
+    pub haunting : {s : Shared} → Answers (length f) p (at f) new (Err s) → PowerFound f power new (Err s)
     haunting {s} a = record { means = haunted_ring (length f) p pre.prime pre.some f refl s.degree new a.long a.means }
 
 -- ---- joining
@@ -71,15 +66,15 @@ pub apart_found : {q big : ℕ} {r : Result ℕ Shares} → ((d : ℕ) → finds
 apart_found {r = Ok z} apart f = refl
 apart_found {r = Err s} apart f = absurd (apart s.divisor ((f.shares s.divisor).0 refl))
 
-pub apart : {f acc g : List ℕ} {p k q big : ℕ} {u : Unit {0}} → NextPower f p k big acc → q ≡ p ^ k → PowerFound f p k g (Ok u) → Apart g acc q big
-apart {p = p} {k} {big = big} pre e found =
+pub apart : {f acc g : List ℕ} {power : Power} {big : ℕ} {u : Unit {0}} → NextPower f power big acc → PowerFound f power g (Ok u) → Apart g acc power.value big
+apart {power = power} {big} pre found =
     let same = found.means.ring.long in
     record {
-      above = rw e (power_above p k pre.prime.two pre.exponent);
-      limit = rw e pre.limit;
+      above = rw power.is (power_above power.prime power.exponent pre.prime.two power.some);
+      limit = pre.limit;
       some = pre.positive;
-      apart = λ d s. power_shares p k big pre.prime pre.apart (subst (λ (x : ℕ). finds.Shared x big d) e s);
-      ring = rw (e, same) found.means.ring;
+      apart = λ d s. power_shares power.prime power.exponent big pre.prime pre.apart (subst (λ (x : ℕ). finds.Shared x big d) power.is s);
+      ring = rw same found.means.ring;
       ring' = rw same pre.inverse.ring;
     }
 
@@ -120,33 +115,37 @@ module _ {f out : List ℕ} {M : Factored} (pre : CanInvert f M out) where
   pub walk_end : {acc : List ℕ} {big : ℕ} (i : ℕ) → i ≡ length ps → big ≡ first-powers ps es i → Inverse (length f) big f acc → Solved f M.modulus acc (Ok tt)
   walk_end {acc} i e b a = record { means = subst (λ (x : ℕ). Inverse (length f) x f acc) (b ∙ ap (first-powers ps es) e ∙ first_all pre.granted.factors) a }
 
-  module _ {i p k : ℕ} (turn : Turn ps es i p k) {big : ℕ} (b : big ≡ first-powers ps es i) where
-    entry : Listed p k M.modulus
-    entry = rw (turn.prime, turn.exponent) (listed pre.granted.factors i turn.inside)
+  pub powered : {i p k : ℕ} → Turn ps es i p k → (1 < p) × (1 ≤ k) × (p ^ k ≤ most_modulus)
+  powered {i} turn =
+      let entry = listed pre.granted.factors i turn.inside in
+      rw (turn.prime, turn.exponent) (entry.prime.two, entry.exponent, le_trans entry.power pre.granted.legal.high)
 
-    next_is : p ^ k * big ≡ first-powers ps es (i + 1)
-    next_is = rw (turn.prime, turn.exponent, b) (mul_comm (at ps i ^ at es i) (first-powers ps es i) ∙ sym (first_next pre.granted.factors i turn.inside))
+  module _ {i p k : ℕ} (turn : Turn ps es i p k) (power : Power) (made : (power.prime ≡ p) × (power.exponent ≡ k)) {big : ℕ} (b : big ≡ first-powers ps es i) where
+    prime_is : power.prime ≡ at ps i
+    prime_is = made.0 ∙ turn.prime
+
+    next_is : power.value * big ≡ first-powers ps es (i + 1)
+    next_is = rw (power.is, prime_is, made.1, turn.exponent, b) (mul_comm (at ps i ^ at es i) (first-powers ps es i) ∙ sym (first_next pre.granted.factors i turn.inside))
 
     module _ {acc : List ℕ} (a : Inverse (length f) big f acc) where
-      pub walk-next : NextPower f p k big acc
+      pub walk-next : NextPower f power big acc
       walk-next = record {
-        prime = entry.prime;
-        exponent = entry.exponent;
+        prime = rw prime_is (listed pre.granted.factors i turn.inside).prime;
         limit = le_trans (subst (λ (x : ℕ). x ≤ M.modulus) (sym next_is) (first_low pre.granted.factors (i + 1))) pre.granted.legal.high;
         some = pre.granted.legal.some;
         few = pre.granted.legal.few;
         positive = rw b (first_some pre.granted.factors i);
-        apart = rw (b, turn.prime) (first_apart pre.granted.factors i turn.inside);
+        apart = rw (b, prime_is) (first_apart pre.granted.factors i turn.inside);
         inverse = a;
       }
 
       module _ {new : List ℕ} where
-        pub walk-joined : {next : ℕ} → Progressed f p k big new (Ok next) → (next ≡ first-powers ps es (i + 1)) × Inverse (length f) next f new
+        pub walk-joined : {next : ℕ} → Progressed f power big new (Ok next) → (next ≡ first-powers ps es (i + 1)) × Inverse (length f) next f new
         walk-joined s = (s.means.0 ∙ next_is, subst (λ (x : ℕ). Inverse (length f) x f new) (sym s.means.0) s.means.1)
 
-        pub walk_dark : {g : Ghost} → Progressed f p k big new (Err g) → Solved f M.modulus new (Err g)
+        pub walk_dark : {g : Ghost} → Progressed f power big new (Err g) → Solved f M.modulus new (Err g)
         walk_dark {g} s =
             let before : Invertible (length f) (first-powers ps es i) f = record { inverse = acc; is = subst (λ (x : ℕ). Inverse (length f) x f acc) b a } in
-            let singular = subst (λ (x : ℕ). Singular (length f) x f) turn.prime s.means.1 in
+            let singular = subst (λ (x : ℕ). Singular (length f) x f) prime_is s.means.1 in
             let smallest = smallest_next pre.granted.factors (length f) pre.granted.legal.some f refl i turn.inside before singular in
-            record { means = rw s.means.0 (rw turn.prime smallest, s.means.2) }
+            record { means = rw s.means.0 (rw prime_is smallest, s.means.2) }

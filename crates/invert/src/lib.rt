@@ -13,6 +13,7 @@ use answer::{Answer, Failure, Refusal};
 use checks::check_room;
 use euclid::{Shared, euclid};
 use factors::Factored;
+use lift::power::Power;
 use lift::{join, lift};
 use limits::MOST_ENTRIES;
 use modular::inverse::inverse;
@@ -36,13 +37,13 @@ impl Ghost {
     }
 }
 
-// out becomes the inverse of f modulo p^k, which is top, or the ghost polynomial modulo p.
-fn modulo_power(f: &[u32], p: u32, k: u32, top: u32, out: &mut [u32]) -> Result<(), Shared>
-    requires { PrimePower f.now p k top out.old }
-    ensures { PowerFound f.now p k out.new result }
+// out becomes the inverse of f modulo that power of a prime, or the ghost polynomial modulo the prime.
+fn modulo_power(f: &[u32], power: Power, out: &mut [u32]) -> Result<(), Shared>
+    requires { PrimePower f.now power out.old }
+    ensures { PowerFound f.now power out.new result }
 {
-    euclid(f, p, out)?;
-    lift(f, out, p, k, top);
+    euclid(f, power.prime, out)?;
+    lift(f, out, power);
     Ok(())
 }
 
@@ -56,22 +57,21 @@ fn join_power(g: &[u32], acc: &mut [u32], q: u32, big: u32)
     join(g, acc, q, big, z);
 }
 
-// One prime power more: acc, the inverse of f modulo big, becomes the inverse modulo the product that is told, of p^k and big, or the ghost polynomial modulo p.
-fn next_power(f: &[u32], p: u32, k: u32, big: u32, acc: &mut [u32]) -> Result<u32, Ghost>
-    requires { NextPower f.now p k big acc.old }
-    ensures { Progressed f.now p k big acc.new result }
+// One prime power more: acc, the inverse of f modulo big, becomes the inverse modulo the product that is told, of both, or the ghost polynomial modulo the prime.
+fn next_power(f: &[u32], power: Power, big: u32, acc: &mut [u32]) -> Result<u32, Ghost>
+    requires { NextPower f.now power big acc.old }
+    ensures { Progressed f.now power big acc.new result }
 {
     let n = f.len();
     let g = &mut [0u32; MOST_ENTRIES][..n];
-    let q = p.pow(k);
-    match modulo_power(f, p, k, q, g) {
+    match modulo_power(f, power, g) {
         Ok(()) => {
-            join_power(g, acc, q, big);
-            Ok(q * big)
+            join_power(g, acc, power.value, big);
+            Ok(power.value * big)
         }
         Err(_) => {
             acc.copy_from_slice(g);
-            Err(Ghost { prime: p })
+            Err(Ghost { prime: power.prime })
         }
     }
 }
@@ -84,7 +84,8 @@ fn solve(f: &[u32], m: Factored<'_>, out: &mut [u32]) -> Result<(), Ghost>
     out.fill(0);
     let mut big = 1;
     for (&p, &k) in m.primes.iter().zip(m.exponents) {
-        big = next_power(f, p, u32::from(k), big, out)?;
+        let power = Power::of(p, u32::from(k));
+        big = next_power(f, power, big, out)?;
     }
     Ok(())
 }

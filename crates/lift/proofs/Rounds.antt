@@ -19,6 +19,7 @@ use Rattle.ring.proofs.Lift.{lifted, lift_inverse}
 use Rattle.convolve.specs.Mixable.{Mixable}
 use Rattle.convolve.proofs.Rings.{rings_mixable, low_everywhere}
 use Rattle.lift.specs.Asks.{Lessened, Round, Rounded, Liftable}
+use Rattle.lift.specs.declared.power.Power.{Power}
 use Rattle.lift.proofs.Lifting.{lifted_table, power_divides, reached, reached_start, reached_next}
 
 module _ {f g p₀ s₀ t₀ : List ℕ} {q : ℕ} (pre : Round f g q p₀ s₀ t₀) where
@@ -73,13 +74,19 @@ power_min p a b z = elim (dec_le a b) [
 pub power_first : (p k : ℕ) → 1 ≤ k → p ^ reached k 0 ≡ p
 power_first p k h = ap (λ (e : ℕ). p ^ e) (reached_start k h) ∙ rw (pow-suc p 0, pow-zero p) (one-mul p)
 
-module _ {f g₀ : List ℕ} {p k top : ℕ} (pre : Liftable f g₀ p k top) (t : ℕ) {q q' : ℕ} (at-q : q ≡ p ^ reached k t) (next : q' ≡ min (q * q) top) where
+module _ {f g₀ : List ℕ} {power : Power} (pre : Liftable f g₀ power) (t : ℕ) {q q' : ℕ} (at-q : q ≡ power.prime ^ reached power.exponent t) (next : q' ≡ min (q * q) power.value) where
+  abbrev p : ℕ
+  p = power.prime
+
+  abbrev k : ℕ
+  k = power.exponent
+
   positive : 0 < p
-  positive = omega (arith, pre.prime)
+  positive = omega (arith, power.above)
 
   pub power_next : q' ≡ p ^ reached k (t + 1)
   power_next =
-      next ∙ (λ i. min (at-q i * at-q i) (pre.power i)) ∙ ap (λ (x : ℕ). min x (p ^ k)) (sym (pow-add p (reached k t) (reached k t)))
+      next ∙ (λ i. min (at-q i * at-q i) (power.is i)) ∙ ap (λ (x : ℕ). min x (p ^ k)) (sym (pow-add p (reached k t) (reached k t)))
       ∙ power_min p (reached k t + reached k t) k positive ∙ ap (λ (e : ℕ). p ^ e) (sym (reached_next k t))
 
   divides : q ∣ q'
@@ -100,7 +107,7 @@ module _ {f g₀ : List ℕ} {p k top : ℕ} (pre : Liftable f g₀ p k top) (t 
     pub round_ready : {pattern square product : List ℕ} → length pattern ≡ length f → length square ≡ length f → length product ≡ length f → Round f g q' pattern square product
     round_ready ep es et = record {
       positive = above;
-      limit = omega (arith, next, pre.limit);
+      limit = omega (arith, next, power.limit);
       some = pre.some;
       few = pre.few;
       ring = record { long = a.ring.long; low = λ i h. lt_of_lt_of_le (now.ring.low i h) (le_of_dvd above divides) };

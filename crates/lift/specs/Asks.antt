@@ -6,6 +6,7 @@ use Rattle.limits.specs.Limits.{most_entries, most_modulus}
 use Rattle.modular.specs.Inverse.{InverseOf}
 use Rattle.ring.specs.Ring.{Ring}
 use Rattle.ring.specs.Inverse.{Inverse}
+use Rattle.lift.specs.declared.power.Power.{Power}
 
 -- Two rings of one length modulo q.
 pub record Lessened (g h : List ℕ) (q : ℕ) : Type 0 where
@@ -31,15 +32,11 @@ pub record Round (f g : List ℕ) (q : ℕ) (pattern square product : List ℕ) 
 pub record Rounded (f g : List ℕ) (q : ℕ) (new : List ℕ) : Type 0 where
   pub inverse : (r : ℕ) → r ∣ q → q ∣ r * r → Inverse (length f) r f g → Inverse (length f) q f new
 
--- From p to p^k, which is `top`: g is the inverse of f modulo p.
-pub record Liftable (f g : List ℕ) (p k top : ℕ) : Type 0 where
-  pub prime : 1 < p
-  pub exponent : 1 ≤ k
-  pub power : top ≡ p ^ k
-  pub limit : top ≤ most_modulus
+-- From a prime to its power: g is the inverse of f modulo the prime.
+pub record Liftable (f g : List ℕ) (power : Power) : Type 0 where
   pub some : 1 ≤ length f
   pub few : length f ≤ most_entries
-  pub inverse : Inverse (length f) p f g
+  pub inverse : Inverse (length f) power.prime f g
 
 pub record Blendable (x y first second m : ℕ) : Type 0 where
   pub positive : 0 < m

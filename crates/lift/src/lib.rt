@@ -1,11 +1,15 @@
 // From inverses modulo primes to inverses modulo their powers, and from those to one modulo their product.
 #![tactic(auto)]
 
-ghost use Rattle.std.specs.Prelude.{◌≡◌, ◌+◌, ◌-◌, ◌*◌, ◌%◌, ◌^◌, min, length};
+ghost use Rattle.std.specs.Prelude.{◌≡◌, ◌+◌, ◌-◌, ◌*◌, ◌%◌, min, length};
 ghost use Rattle.sums.specs.Table.{at, table};
 ghost use Rattle.ring.specs.Inverse.{Inverse};
 ghost use Rattle.lift.specs.Asks.{Lessened, Round, Rounded, Liftable, Blendable, Blends, Joinable, Joined};
 
+// A prime's power.
+pub mod power;
+
+use crate::power::Power;
 use convolve::convolve;
 use limits::MOST_ENTRIES;
 use modular::power::rounds;
@@ -46,19 +50,19 @@ fn squared(q: u32, top: u32) -> u32
     q.saturating_mul(q).min(top)
 }
 
-// g, the inverse of f modulo p, becomes the inverse modulo p^k, which is top.
-pub fn lift(f: &[u32], g: &mut [u32], p: u32, k: u32, top: u32)
-    requires { Liftable f.now g.old p k top }
-    ensures { Inverse (length f.now) (p ^ k) f.now g.new }
+// g, the inverse of f modulo a prime, becomes the inverse modulo its power.
+pub fn lift(f: &[u32], g: &mut [u32], power: Power)
+    requires { Liftable f.now g.old power }
+    ensures { Inverse (length f.now) power.value f.now g.new }
 {
     let n = f.len();
     let pattern = &mut [0u32; MOST_ENTRIES][..n];
     let square = &mut [0u32; MOST_ENTRIES][..n];
     let product = &mut [0u32; MOST_ENTRIES][..n];
-    let turns = rounds(k);
-    let mut q = p;
+    let turns = rounds(power.exponent);
+    let mut q = power.prime;
     for _t in 0..turns {
-        q = squared(q, top);
+        q = squared(q, power.value);
         round(f, g, q, pattern, square, product);
     }
 }

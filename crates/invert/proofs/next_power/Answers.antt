@@ -3,4 +3,4 @@ use Rattle.invert.proofs.Steps.{apart}
 use Rattle.invert.proofs.next_power.Goals as goal
 
 pub join_power-requires : goal.join_power-requires
-join_power-requires c = apart c.requires c.pow-q.ensures c.in-Ok.ensures
+join_power-requires c = apart c.requires c.in-Ok.ensures

@@ -12,7 +12,7 @@ use Rattle.lift.proofs.lift.Goals as goal
 pub loop-t-init : goal.loop-t-init
 loop-t-init c =
     let f = c.args.f.now in
-    let first = power_first c.args.p c.args.k c.requires.exponent in
+    let first = power_first c.args.power.prime c.args.power.exponent c.args.power.some in
     (sym first, subst (λ (x : ℕ). Inverse (length f) x f c.args.g.now) (sym first) c.requires.inverse)
 
 pub round-requires : goal.round-requires
@@ -29,6 +29,6 @@ loop-t-preserved c =
 pub returns : goal.returns
 returns c =
     let f = c.args.f.now in
-    let k = c.args.k in
-    let done : reached k c.loop-t._t ≡ k = ap (reached k) (omega arith) ∙ reached_end k c.rounds-turns.result c.rounds-turns.ensures in
-    subst (λ (e : ℕ). Inverse (length f) (c.args.p ^ e) f c.loop-t.g) done c.loop-t.invariant.1
+    let power = c.args.power in
+    let done : reached power.exponent c.loop-t._t ≡ power.exponent = ap (reached power.exponent) (omega arith) ∙ reached_end power.exponent c.rounds-turns.result c.rounds-turns.ensures in
+    subst (λ (m : ℕ). Inverse (length f) m f c.loop-t.g) (ap (λ (e : ℕ). power.prime ^ e) done ∙ sym power.is) c.loop-t.invariant.1

@@ -8,4 +8,4 @@ use Rattle.lift.proofs.Lifting.{reached}
 use Rattle.lift.proofs.lift.Given as goal
 
 abbrev pub invariant-loop-t : goal.invariant-loop-t
-invariant-loop-t l = (l.q ≡ l.p ^ reached l.k l._t) × Inverse (length l.f) (l.p ^ reached l.k l._t) l.f l.g
+invariant-loop-t l = (l.q ≡ l.power.prime ^ reached l.power.exponent l._t) × Inverse (length l.f) (l.power.prime ^ reached l.power.exponent l._t) l.f l.g
