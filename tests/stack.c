@@ -7,7 +7,7 @@
  * more than the table `calls` states. Then it runs on an ordinary thread that has just the stated stack above its guard
  * page, where too deep a frame ends the process.
  *
- * memset, memcpy and memmove are all that the library needs from elsewhere. In a program that binds them at their first
+ * memset and memcpy are all that the library needs from elsewhere. In a program that binds them at their first
  * use, the dynamic linker once stands on the same stack.
  */
 #include <limits.h>

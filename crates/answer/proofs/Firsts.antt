@@ -41,6 +41,9 @@ or_either false t k ring place e d = rw (e, d)
 pub or-go_on : {found before after r : Check} → found ≡ before → found ≡ Ok tt → r ≡ after → r ≡ or before after
 or-go_on {after = after} e p h = h ∙ ap (λ (x : Check). or x after) (sym p ∙ e)
 
+pub or-stop : {found before : Check} {r : Refusal} (after : Check) → found ≡ before → found ≡ Err r → Err r ≡ or before after
+or-stop after e p = ap (λ (x : Check). or x after) (sym p ∙ e)
+
 pub both : (c d : Check) → or c d ≡ Ok tt → (c ≡ Ok tt) × (d ≡ Ok tt)
 both (Ok _) d e = (refl, e)
 both (Err r) d e = absurd (let z : ◌≡◌ {A = ℕ} 0 1 = cc in omega arith)

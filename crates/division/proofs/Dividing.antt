@@ -8,7 +8,7 @@ use native.Mathlib.Omega.{arith}
 use Rattle.sums.specs.Table.{at}
 use Rattle.series.specs.Series.{Series, Below, Reduced, Length}
 use Rattle.division.specs.Division.{Held, Dividing, Divided}
-use Rattle.division.specs.Terms.{Trimmed, Longer, NextTerms, Added}
+use Rattle.division.specs.Terms.{Trimmed, Longer, NextTerms, AddableTerms, Added}
 use Rattle.series.specs.Operations.{add, mul, zeros, linear}
 use Rattle.division.specs.declared.Row.{Row}
 use Rattle.division.specs.declared.Terms.{Terms}
@@ -60,6 +60,26 @@ module _ {p k z : ℕ} {a b : Row} (d : Dividing p k a b z) where
     }
 
     module _ {t : Terms} (n : NextTerms p h r b t) where
+      pub addable_r : AddableTerms t b.len r.remainder b.remainder
+      addable_r = record {
+        modulus = rw n.low d.division.modulus;
+        same = n.high ∙ sym n.low;
+        onto = rw n.low g.held.remainder;
+        from = rw n.low d.division.divisor.remainder;
+        below = d.division.below₁;
+        room = omega (arith, n.shift, g.most, d.room);
+      }
+
+      pub addable_s : AddableTerms t k r.cofactor b.cofactor
+      addable_s = record {
+        modulus = rw n.low d.division.modulus;
+        same = n.high ∙ sym n.low;
+        onto = rw n.low g.held.cofactor;
+        from = rw n.low d.division.divisor.cofactor;
+        below = d.cofactors.below;
+        room = omega (arith, n.shift, g.most, d.cofactors.room);
+      }
+
       abbrev terms : Series
       terms = linear t.low.value t.high.value t.shift
 
@@ -71,6 +91,9 @@ module _ {p k z : ℕ} {a b : Row} (d : Dividing p k a b z) where
       ]
 
       module _ {x : List ℕ} (u : Added t r.remainder x b.remainder) where
+        pub lower : Below (h - 2) (at x)
+        lower = rw (u.sum, n.low) n.away
+
         pub going_on : {y : List ℕ} {l : ℕ} → Added t r.cofactor y b.cofactor → Trimmed x (h - 2) l → Going p a (record { remainder = x; cofactor = y; len = l }) b
         going_on v e = record {
           quotient = add p g.quotient terms;

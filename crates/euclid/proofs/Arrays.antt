@@ -1,11 +1,11 @@
 -- Arrays and lists as polynomials: what the small functions of the extended Euclid leave in them. Assumes nothing.
 use Prim.Native.Nat.{ℕ, zero, suc, ◌+◌, ◌-◌, ◌%◌, ◌≤◌, ◌<◌}
 use mathlib.Core.Path.{◌≡◌, refl, sym, ◌∙◌, ap, subst, fun_ext}
-use mathlib.Core.List.{List, ◌++◌}
+use mathlib.Core.List.{List, ◌++◌, append-nil}
 use native.Mathlib.Decide.{dec_lt, ℕ_discrete}
 use native.Mathlib.Omega.{arith}
 use lib.ListN.{length, drop, set, replicate, length-replicate, length-set, length-append, length-drop, get_or-append}
-use lib.Seq.{get_or-set_same, get_or-set_other, get_or-append-add, get_or-drop}
+use lib.Seq.{drop-length, get_or-set_same, get_or-set_other, get_or-append-add, get_or-drop}
 use Rattle.sums.specs.Table.{at}
 use Rattle.sums.proofs.Tables.{at_past, length-table, table_eq}
 use Rattle.ring.specs.Reduce.{reduce}
@@ -22,6 +22,10 @@ use Rattle.division.specs.Limits.{places}
 use Rattle.division.specs.Division.{Coefficients}
 use Rattle.euclid.specs.Answer.{Entries}
 use Rattle.euclid.specs.Descent.{HoldsPolynomial, Over}
+
+-- A list copied over one of its length.
+pub copied_whole : (src dst : List ℕ) → length dst ≡ length src → src ++ drop (length src) dst ≡ src
+copied_whole src dst e = ap (λ (k : ℕ). src ++ drop k dst) (sym e) ∙ ap (λ (l : List ℕ). src ++ l) (drop-length dst) ∙ append-nil src
 
 length-terms : (n m : ℕ) (t : ℕ → ℕ) → length (terms n m t) ≡ n
 unfolding terms
@@ -48,12 +52,18 @@ at-zeros zero k = refl
 at-zeros (suc n) zero = refl
 at-zeros (suc n) (suc k) = at-zeros n k
 
-pub holds_constant : (n c : ℕ) → n ≡ places → HoldsPolynomial (set (replicate n 0) 0 c) (term c 0)
-holds_constant n c e = record {
-  long = length-set (replicate n 0) 0 c ∙ length-replicate n 0 ∙ e;
+pub holds_none : (n : ℕ) → n ≡ places → HoldsPolynomial (replicate n 0) (term 0 0)
+holds_none n e = record {
+  long = length-replicate n 0 ∙ e;
+  is = fun_ext λ k. at-zeros n k ∙ elim (ℕ_discrete k 0) [ yes q ↦ sym (ap (term 0 0) q ∙ term-at 0 0) | no q ↦ sym (term_other 0 0 k q) ];
+}
+
+pub holds_constant : (c : ℕ) {a : List ℕ} → HoldsPolynomial a (term 0 0) → HoldsPolynomial (set a 0 c) (term c 0)
+holds_constant c {a} h = record {
+  long = length-set a 0 c ∙ h.long;
   is = fun_ext λ k. elim (ℕ_discrete k 0) [
-    | yes q ↦ ap (at (set (replicate n 0) 0 c)) q ∙ get_or-set_same (replicate n 0) 0 c 0 (omega (arith, length-replicate {A = ℕ} n 0)) ∙ sym (ap (term c 0) q ∙ term-at c 0)
-    | no q ↦ get_or-set_other (replicate n 0) 0 k c 0 q ∙ at-zeros n k ∙ sym (term_other c 0 k q)
+    | yes q ↦ ap (at (set a 0 c)) q ∙ get_or-set_same a 0 c 0 (omega (arith, h.long)) ∙ sym (ap (term c 0) q ∙ term-at c 0)
+    | no q ↦ get_or-set_other a 0 k c 0 q ∙ ap (λ (s : Series). s k) h.is ∙ term_other 0 0 k q ∙ sym (term_other c 0 k q)
   ];
 }
 

@@ -2,12 +2,14 @@
 -- call, over any modulus. Assumes nothing.
 use Prim.Native.Nat.{ℕ, ◌+◌, ◌-◌, ◌<◌}
 use mathlib.Core.Path.{◌≡◌, refl, sym, ◌∙◌, subst}
+use mathlib.Core.Logic.{⊎_elim}
 use mathlib.Core.List.{List}
 use native.Mathlib.Omega.{arith}
 use native.Mathlib.Nat.{le_of_dvd}
 use lib.ListN.{length}
 use Rattle.std.specs.Prelude.{Result, Ok, Err}
 use Rattle.sums.specs.Table.{at}
+use Rattle.modular.specs.Prime.{Prime}
 use Rattle.modular.specs.Inverse.{InverseOf, Lead}
 use Rattle.modular.specs.Finds.{Shared as SharedNumber}
 use Rattle.modular.specs.declared.inverse.Shares.{Shares}
@@ -120,3 +122,11 @@ module _ (m : Modulus) {f out r s t u : List ℕ} (w : Attemptable f out) (cycle
     reaches = answers_same (red-red m.value (at f)) o (subst (λ (s : Series). Answers (length f) m.value s after o) pattern.is (subst (λ (n : ℕ). Answers n m.value (at t) after o) w.room h.reaches));
   }
   called (Err s) h = record { long = h.long ∙ w.room; reaches = h.reaches }
+
+-- ---- modulo a prime there is no divisor to be found
+
+module _ {n p : ℕ} {f : Series} {out : List ℕ} {a : Result Outcome Shares} (h : Attempts n p f out a) where
+  pub never_divisor : {s : Shares} → Prime p → a ≡ Err s → ⊥
+  never_divisor {s} prime e =
+      let found = (subst (Attempts n p f out) e h).reaches in
+      ⊎_elim (λ (e : s.divisor ≡ 1). omega (arith, found.above)) (λ (e : s.divisor ≡ p). omega (arith, found.below)) (prime.only s.divisor found.divides)

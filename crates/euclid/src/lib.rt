@@ -14,7 +14,7 @@ use crate::modulo::Modulus;
 use division::{PLACES, Row, trim};
 use modular::inverse::{Shares, lead_inverse};
 use rows::Factor;
-use slices::remainders;
+use slices::{copy, remainders};
 
 // Why f has no inverse: f and x^n - 1 share a factor of that degree.
 #[derive(Clone, Copy, Debug, PartialEq, Eq)]
@@ -25,33 +25,42 @@ pub struct Shared {
 // What is in the output: the inverse of f, or else the ghost polynomial.
 pub type Outcome = Result<(), Shared>;
 
-// The constant c.
-fn constant(c: u32) -> [u32; PLACES]
-    ensures { HoldsPolynomial result (term c 0) }
+// A row of zeros. What it begins with is written into it where it stands, since an array that is made apart is copied into its row.
+fn zero_row(len: usize) -> Row
+    ensures remainder { HoldsPolynomial result.remainder (term 0 0) }
+    ensures cofactor { HoldsPolynomial result.cofactor (term 0 0) }
+    ensures len { result.len ≡ len }
 {
-    let mut a = [0; PLACES];
+    Row {
+        remainder: [0; PLACES],
+        cofactor: [0; PLACES],
+        len,
+    }
+}
+
+// The constant c, where zeros stand.
+fn constant(c: u32, a: &mut [u32; PLACES])
+    requires { HoldsPolynomial a.old (term 0 0) }
+    ensures { HoldsPolynomial a.new (term c 0) }
+{
     a[0] = c;
-    a
 }
 
-// x^n - 1.
-fn cycle(n: usize, m: Modulus) -> [u32; PLACES]
-    requires { Entries n }
-    ensures { HoldsPolynomial result (xn_minus_one n m.value) }
+// x^n - 1, where zeros stand.
+fn cycle(n: usize, m: Modulus, a: &mut [u32; PLACES])
+    requires { Entries n × HoldsPolynomial a.old (term 0 0) }
+    ensures { HoldsPolynomial a.new (xn_minus_one n m.value) }
 {
-    let mut a = constant(m.value - 1);
+    constant(m.value - 1, a);
     a[n] = 1;
-    a
 }
 
-// f modulo m.
-fn pattern(f: &[u32], m: Modulus) -> [u32; PLACES]
-    requires { Entries (length f.now) }
-    ensures { HoldsPolynomial result (red m.value (at f.now)) }
+// f modulo m, where zeros stand.
+fn pattern(f: &[u32], m: Modulus, a: &mut [u32; PLACES])
+    requires { Entries (length f.now) × HoldsPolynomial a.old (term 0 0) }
+    ensures { HoldsPolynomial a.new (red m.value (at f.now)) }
 {
-    let mut a = constant(0);
     remainders(f, m.value, &mut a[..f.len()]);
-    a
 }
 
 // src over y, which has an inverse.
@@ -61,7 +70,7 @@ fn over(src: &[u32], y: u32, m: Modulus, out: &mut [u32])
 {
     // By hand: `unwrap` would leave a trap in Euclid's loop, which bench/bounds forbids.
     let z = lead_inverse(y, m.value, m.prime).unwrap_or(0);
-    out.copy_from_slice(src);
+    copy(src, out);
     Factor::new(z, m.value).scale(out);
 }
 
@@ -121,16 +130,11 @@ pub fn euclid_modulo(f: &[u32], m: Modulus, out: &mut [u32]) -> Result<Outcome, 
     ensures { Attempts (length f.now) m.value (at f.now) out.new result }
 {
     let n = f.len();
-    let mut first = Row {
-        remainder: cycle(n, m),
-        cofactor: constant(0),
-        len: n + 1,
-    };
-    let mut second = Row {
-        remainder: pattern(f, m),
-        cofactor: constant(1),
-        len: n,
-    };
+    let mut first = zero_row(n + 1);
+    cycle(n, m, &mut first.remainder);
+    let mut second = zero_row(n);
+    pattern(f, m, &mut second.remainder);
+    constant(1, &mut second.cofactor);
     second.len = trim(&second.remainder, n);
     descend(&mut first, &mut second, m, out)
 }

@@ -3,7 +3,8 @@
 
 ghost use Rattle.std.specs.Prelude.{◌≡◌, []};
 ghost use Rattle.answer.specs.First.{first};
-ghost use Rattle.checks.specs.Factors.{list_sizes, entry_order, entries_order};
+ghost use Rattle.modular.specs.FactorList.{Rising};
+ghost use Rattle.checks.specs.Factors.{list_sizes, entry_order, entries_order, product};
 ghost use Rattle.checks.specs.Order.{lent};
 ghost use Rattle.factors.specs.Factored.{factored_of, listed, listed_order};
 
@@ -56,6 +57,14 @@ fn check_entries(primes: &[u32], exponents: &[u8]) -> Result<(), Refusal>
     Ok(())
 }
 
+// 13, of a list whose entries passed.
+fn check_product(primes: &[u32], exponents: &[u8], m: u32) -> Result<(), Refusal>
+    requires { Rising 0 primes.now exponents.now }
+    ensures { result ≡ product m primes.now exponents.now }
+{
+    refuse_if(!multiply_to(primes, exponents, m), Case::Product, 0, 0)
+}
+
 impl Factored<'_> {
     // The whole check. An entry is looked at only where 5 passed, so that no list costs more than `MOST_FACTORS` tests of a prime.
     #[tactic(auto, using(checks::proofs::FactorCheck::rises, checks::proofs::FactorCheck::factors_in_parts))]
@@ -64,8 +73,7 @@ impl Factored<'_> {
     {
         check_sizes(self.primes.len(), self.exponents.len(), MOST_FACTORS)?;
         check_entries(self.primes, self.exponents)?;
-        let whole = multiply_to(self.primes, self.exponents, self.modulus);
-        refuse_if(!whole, Case::Product, 0, 0)
+        check_product(self.primes, self.exponents, self.modulus)
     }
 
     // All checks up to 6 of a call on rings modulo this modulus: ring 1 is a, the others follow it.

@@ -17,7 +17,8 @@ use Rattle.std.proofs.lemmas.Slice.Eq.{slice_eq-Decides}
 use Rattle.sums.specs.Table.{at}
 use Rattle.checks.proofs.FirstHigh.{high_before, high_at}
 use Rattle.checks.specs.Checks.{first_high}
-use Rattle.pattern.specs.Sent.{Sent}
+use Rattle.pattern.specs.Sent.{Sent, entries}
+use Rattle.pattern.specs.Granted.{BothGranted}
 use Rattle.pattern.specs.Same.{Same}
 use Rattle.pattern.specs.Counts.{Unmixed}
 use Rattle.answer.specs.First.{first}
@@ -30,7 +31,7 @@ use Rattle.factors.specs.Factored.{Factored}
 use Rattle.pattern.specs.Promises.{same_order, Compared, NamesRing, SameFeeding}
 use Rattle.feeding.specs.Told.{Verdict, answer_in, yes}
 use Rattle.invert.specs.Inversions.{Inversion}
-use Rattle.feeding.specs.Unmixings.{Counted}
+use Rattle.feeding.specs.Unmixings.{CanCount, Counted}
 use Rattle.feeding.specs.Inner.{Judged}
 
 -- ---- two rings of counts
@@ -67,10 +68,23 @@ module _ (a b : List ℕ) where
 
 -- ---- both sides
 
+-- What unmixing each side asks.
+pub first_ready : {s₁ s₂ : Sent} {M : Factored} → BothGranted s₁ s₂ M → {out : List ℕ} → length out ≡ entries s₁ → CanCount s₁ M out
+first_ready both l = record { granted = both.first_side; long = l }
+
+pub second_ready : {s₁ s₂ : Sent} {M : Factored} → BothGranted s₁ s₂ M → {out : List ℕ} → length out ≡ entries s₁ → CanCount s₂ M out
+second_ready both l = record { granted = both.second_side; long = l ∙ sym both.one_size }
+
 -- Where unmixing is done, the counts are told.
 counts_of : {s : Sent} {m : ℕ} {old new : List ℕ} (found : Inversion) → true ≡ is_ok found → Counted s m old new found → Unmixed m s new
 counts_of (Ok u) e c = c.means
 counts_of (Err g) e c = absurd (true≢false e)
+
+-- The counts of both sides are as many.
+pub one-length : {s₁ s₂ : Sent} {M : Factored} {old₁ c₁ old₂ c₂ : List ℕ} {found₁ found₂ : Inversion} → BothGranted s₁ s₂ M → Counted s₁ M.modulus old₁ c₁ found₁ → true ≡ is_ok found₁
+    → Counted s₂ M.modulus old₂ c₂ found₂ → true ≡ is_ok found₂ → length c₂ ≡ length c₁
+one-length {found₁ = found₁} {found₂} both k₁ done₁ k₂ done₂ =
+    (counts_of found₂ done₂ k₂).counts.ring.long ∙ both.one_size ∙ sym (counts_of found₁ done₁ k₁).counts.ring.long
 
 pub compared : {s₁ s₂ : Sent} {m : ℕ} {old₁ c₁ old₂ c₂ : List ℕ} {found₁ found₂ : Inversion} {same : Bool} → Counted s₁ m old₁ c₁ found₁ → true ≡ is_ok found₁ → Counted s₂ m old₂ c₂ found₂ → true ≡ is_ok found₂
     → (same ≡ true) ↔ Same (length c₁) c₁ c₂ → Judged m s₁ s₂ (Ok same)

@@ -2,6 +2,8 @@
 #![tactic(auto)]
 
 ghost use Rattle.std.specs.Prelude.{◌≡◌, ◌↔◌, true, length};
+ghost use Rattle.ring.specs.Mix.{mix};
+ghost use Rattle.convolve.specs.Mixable.{Mixable};
 ghost use Rattle.answer.specs.First.{first};
 ghost use Rattle.factors.specs.Factored.{factored_of};
 ghost use Rattle.pattern.specs.Same.{Same};
@@ -26,6 +28,16 @@ pub struct Sent<'a> {
     pub readings: &'a [u32],
 }
 
+// The readings mixed with the inverse.
+// Not inlined: else the program unmix holds the product's rows while it inverts, and needs 24 KiB more of stack.
+#[inline(never)]
+fn counts_behind(inverse: &[u32], readings: &[u32], m: u32, out: &mut [u32])
+    requires { Mixable inverse.now readings.now m out.old }
+    ensures { out.new ≡ mix (length inverse.now) m inverse.now readings.now }
+{
+    convolve(inverse, readings, m, out);
+}
+
 // Unmix where nothing is left to check: `inverse` becomes the inverse of the pattern, or its ghost, and out the counts behind the readings, or it stays as it
 // came.
 pub fn unmix_legal(
@@ -38,7 +50,7 @@ pub fn unmix_legal(
     ensures { Unmixing (sent_of s.entry) m.entry.modulus out.old inverse.new out.new result }
 {
     invert_legal(s.pattern, m, inverse)?;
-    convolve(inverse, s.readings, m.modulus, out);
+    counts_behind(inverse, s.readings, m.modulus, out);
     Ok(())
 }
 

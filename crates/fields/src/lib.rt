@@ -5,7 +5,7 @@ ghost use Rattle.std.specs.Prelude.{◌≡◌, ℕ, [], ◌∷◌, cond, not, �
 ghost use Rattle.limits.specs.Limits.{header_bytes};
 ghost use Rattle.answer.specs.Refuse.{refuse_if};
 ghost use Rattle.answer.specs.First.{first};
-ghost use Rattle.fields.specs.Fields.{IsPart};
+ghost use Rattle.fields.specs.Fields.{IsPart, version_of};
 ghost use Rattle.fields.specs.Tags.{tags, fit, lacks, Right, Wrong};
 ghost use Rattle.fields.specs.Checks.{above_tags, value_order};
 ghost use Rattle.fields.specs.Kept.{number, Names, header, kept, WhenKept};
@@ -172,6 +172,16 @@ fn suits(tag: Tag, len: usize, found: Fields) -> bool
         Tag::Factors => in_steps(len, FACTOR_BYTES, MOST_FACTOR_BYTES),
         Tag::Pattern => in_steps(len, ENTRY_BYTES, MOST_ENTRY_BYTES),
         Tag::Readings => len == found.pattern.map_or(0, |part| part.len),
+    }
+}
+
+// The version that the sheet has told so far; 0 before it tells one.
+pub fn version_of(bytes: &[u8], found: Fields) -> u8
+    ensures { WhenKept found (λ come. result ≡ version_of bytes.now come) }
+{
+    match found.version {
+        Some(part) => byte_at(bytes, part.from),
+        None => 0,
     }
 }
 

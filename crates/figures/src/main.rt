@@ -4,30 +4,25 @@
 
 use answer::{Answer, Reply};
 use factors::Factored;
+use std::io;
 use std::io::Print;
-use std::{fmt, io};
 
-// The entries of a ring, each after a blank.
-#[derive(Clone, Copy)]
-struct Entries<'a>(&'a [u32]);
-
-impl fmt::Display for Entries<'_> {
-    fn fmt<W: fmt::Write>(&self, f: &mut fmt::Formatter<W>) -> fmt::Result {
-        for x in self.0 {
-            write!(f, " {x}")?;
-        }
-        Ok(())
-    }
-}
-
-// The number, and the ring and the place, all of them also where they are not told.
+// The number, and the ring and the place, all of them also where they are not told. Each piece is written by itself.
 fn say<R: Print>(rt: &R, figure: &str, answer: Answer) -> io::Result<()> {
     let reply = Reply::from(answer);
-    println!(rt; "{figure} {} {} {}", reply.number, reply.ring, reply.place)
+    print!(rt; "{figure}")?;
+    print!(rt; " {}", reply.number)?;
+    print!(rt; " {}", reply.ring)?;
+    print!(rt; " {}", reply.place)?;
+    println!(rt)
 }
 
 fn say_ring<R: Print>(rt: &R, figure: &str, ring: &[u32]) -> io::Result<()> {
-    println!(rt; "{figure}{}", Entries(ring))
+    print!(rt; "{figure}")?;
+    for x in ring {
+        print!(rt; " {x}")?;
+    }
+    println!(rt)
 }
 
 // What mixing a ring with itself answers.

@@ -1,11 +1,12 @@
 -- The steps along the factor list, as the code takes them: Euclid on f modulo p, the lift to p^k, and joining with what stands already.
 -- Each says over plain variables what a function is given and what its result means. Assumes nothing.
 use Rattle.std.specs.Prelude.{Result, Ok, Err, Some, IsOk, replicate}
-use Prim.Native.Nat.{ℕ, zero, suc, ◌+◌, ◌*◌, ◌^◌, ◌≤◌, ◌<◌}
+use Prim.Native.Nat.{ℕ, zero, suc, ◌+◌, ◌*◌, ◌/◌, ◌^◌, ◌≤◌, ◌<◌}
 use mathlib.Core.Path.{◌≡◌, refl, sym, ap, ◌∙◌, subst}
 use mathlib.Core.List.{List, ◌∷◌}
 use native.Mathlib.Omega.{arith}
-use native.Mathlib.Nat.{mul_comm, le_trans, pow-zero, pow-suc, pow-le-pow_right}
+use native.Mathlib.Decide.{dec_lt}
+use native.Mathlib.Nat.{mul_comm, mul-le-mul_left, div-mul_cancel, le_trans, pow-zero, pow-suc, pow-le-pow_right}
 use lib.ListN.{length}
 use denote.Ref.{Bor}
 use Rattle.std.specs.Iterator.{Yields}
@@ -17,7 +18,10 @@ use Rattle.std.proofs.iter.Yields.{fronts}
 use Rattle.std.proofs.lemmas.Iterator.{zips}
 use Rattle.std.proofs.lemmas.Slice.Zip.{zip_turn}
 use Rattle.sums.specs.Table.{at, table}
+use Rattle.sums.proofs.Tables.{at_past}
+use Rattle.slices.specs.Asks.{Multipliable}
 use Rattle.limits.specs.Limits.{most_modulus}
+use Rattle.modular.specs.FactorList.{powers}
 use Rattle.modular.specs.Finds as finds
 use Rattle.modular.specs.declared.inverse.Shares.{Shares}
 use Rattle.modular.proofs.Factors.{listed, rising_same}
@@ -27,14 +31,14 @@ use Rattle.ring.proofs.Glue.{inverse_none}
 use Rattle.euclid.specs.Answer.{Answers, Solvable}
 use Rattle.euclid.specs.declared.Shared.{Shared}
 use Rattle.lift.specs.declared.power.Power.{Power}
-use Rattle.factors.specs.Factored.{Factored}
+use Rattle.factors.specs.Factored.{Factored, factored}
 use Rattle.pattern.specs.Singular.{Singular}
 use Rattle.pattern.proofs.Link.{reduced_ring, inverse_series}
 use Rattle.pattern.proofs.OnePrime.{haunted_ring}
 use Rattle.pattern.proofs.FirstPowers.{first-powers, first_next, first_all, first_some, first_low, first_apart, power_above, power_shares}
 use Rattle.pattern.proofs.Patterns.{smallest_next}
-use Rattle.invert.specs.Inversions.{CanInvert}
-use Rattle.invert.specs.Inner.{PrimePower, PowerFound, Apart, NextPower, Progressed, Solved}
+use Rattle.invert.specs.Inversions.{CanInvert, Inversion}
+use Rattle.invert.specs.Inner.{PrimePower, PowerFound, Apart, NextPower, Progressed, SolveMeans, Solved}
 use Rattle.invert.specs.declared.Ghost.{Ghost}
 
 -- ---- modulo p, and modulo its power
@@ -58,6 +62,10 @@ module _ {f out : List ℕ} {power : Power} (pre : PrimePower f power out) where
 
     pub haunting : {s : Shared} → Answers (length f) p (at f) new (Err s) → PowerFound f power new (Err s)
     haunting {s} a = record { means = haunted_ring (length f) p pre.prime pre.some f refl s.degree new a.long a.means }
+
+-- What the inverse or the ghost polynomial modulo the next power stands in.
+pub prime_power : {f acc g : List ℕ} {power : Power} {big : ℕ} → NextPower f power big acc → length g ≡ length f → PrimePower f power g
+prime_power pre l = record { prime = pre.prime; some = pre.some; few = pre.few; long = l }
 
 -- ---- joining
 
@@ -149,3 +157,26 @@ module _ {f out : List ℕ} {M : Factored} (pre : CanInvert f M out) where
             let singular = subst (λ (x : ℕ). Singular (length f) x f) prime_is s.means.1 in
             let smallest = smallest_next pre.granted.factors (length f) pre.granted.legal.some f refl i turn.inside before singular in
             record { means = rw s.means.0 (rw prime_is smallest, s.means.2) }
+
+-- m is the product of the powers.
+pub at-powers : {f ps es out : List ℕ} {m : ℕ} → CanInvert f (factored m ps es) out → CanInvert f (factored (powers ps es) ps es) out
+at-powers {f} {ps} {es} {out} pre = subst (λ (x : ℕ). CanInvert f (factored x ps es) out) (sym pre.granted.factors.product) pre
+
+-- ---- from what `solve` found to the ghost: the prime is above 0, and m / p times an entry of the ghost polynomial is below m
+
+module _ {f out : List ℕ} {M : Factored} (pre : CanInvert f M out) {new : List ℕ} {found : Inversion} (s : Solved f M.modulus new found) where
+  -- What was found, where its variant is known.
+  pub known : {k : Inversion} → found ≡ k → SolveMeans f M.modulus new k
+  known e = subst (SolveMeans f M.modulus new) e s.means
+
+  module _ {g : Ghost} (e : found ≡ Err g) where
+    pub ghost_prime : 0 < g.prime
+    ghost_prime = omega (arith, (known e).0.prime.two)
+
+    ghost_low : (k : ℕ) → at new k < g.prime
+    ghost_low k = elim (dec_lt k (length f)) [ yes h ↦ (known e).1.ring.low k h | no h ↦ rw (at_past new k (omega (arith, (known e).1.ring.long))) ghost_prime ]
+
+    pub ghost_fits : Multipliable new (M.modulus / g.prime)
+    ghost_fits = record {
+      fits = λ k. omega (arith, mul-le-mul_left {m = at new k} {n = g.prime} (M.modulus / g.prime) (omega (arith, ghost_low k)), div-mul_cancel g.prime (known e).0.divides, pre.granted.legal.high);
+    }

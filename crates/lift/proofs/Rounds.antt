@@ -23,6 +23,9 @@ use Rattle.lift.specs.declared.power.Power.{Power}
 use Rattle.lift.proofs.Lifting.{lifted_table, power_divides, reached, reached_start, reached_next}
 
 module _ {f g p₀ s₀ t₀ : List ℕ} {q : ℕ} (pre : Round f g q p₀ s₀ t₀) where
+  pub squaring : Mixable g g q s₀
+  squaring = rings_mixable (length f) q g g s₀ pre.some pre.few pre.positive pre.limit pre.ring pre.ring pre.square_long
+
   module _ {pattern square : List ℕ} (ep : pattern ≡ reduce (length f) q f) (es : square ≡ mix (length g) q g g) where
     square_is : square ≡ mix (length f) q g g
     square_is = es ∙ ap (λ (k : ℕ). mix k q g g) pre.ring.long

@@ -1,16 +1,14 @@
 -- Items written one after another stand as all of them together, and the room for all is room for the first and, after them, for the others. What is
 -- written later stands behind what was written before. Assumes nothing.
-use Prim.Native.Nat.{ℕ, zero, suc, ◌-◌, ◌/◌, ◌^◌, ◌≤◌, ◌<◌}
-use mathlib.Core.Path.{◌≡◌, refl, ap, subst}
-use mathlib.Core.List.{List, [], ◌∷◌, ◌++◌}
+use Prim.Native.Nat.{ℕ, zero, suc, ◌-◌, ◌/◌, ◌%◌, ◌^◌, ◌≤◌, ◌<◌}
+use mathlib.Core.Path.{◌≡◌, refl, ap, subst, ◌∙◌}
+use mathlib.Core.List.{List, [], ◌∷◌, ◌++◌, append-nil}
 use native.Mathlib.Omega.{arith}
 use native.Mathlib.Nat.{pow-zero, pow-suc}
 use lib.ListN.{length}
 use Rattle.lines.specs.Put.{PutsBytes}
-use Rattle.lines.proofs.Bytes.{bytes-length, bytes-append, one-bytes}
-use Rattle.std.specs.Fmt.{decimal}
-use Rattle.std.proofs.lemmas.Fmt.{decimal_by_steps, length-decimal-le}
-use Rattle.lines.specs.Decimal.{Decimal}
+use Rattle.lines.proofs.Bytes.{bytes-length, bytes-append, one-bytes, puts_none}
+use Rattle.lines.specs.Decimal.{glyph, Decimal}
 use Rattle.lines.specs.Items.{Item, word, number}
 use Rattle.lines.specs.Puts.{Puts, Room}
 use Rattle.lines.proofs.Decimals.{one_digit, next_digit}
@@ -53,7 +51,15 @@ room_next items more r p =
       inside = omega (arith, r.inside, most-append r.places items more, p.stands.ends, puts_length p, spells_short r.places items p.spelling r.some parts.0 p.spells);
     }
 
--- ---- a number without its last digit
+-- ---- nothing, and words
+
+pub puts_nothing : {items : List Item} {o : ℕ} {old : List ℕ} → Room items o old → Puts [] o old old o
+puts_nothing r = record { spelling = []; spells = refl; stands = puts_none (omega (arith, r.inside)) }
+
+pub puts_word : {w : List ℕ} {o end : ℕ} {old new : List ℕ} → PutsBytes w o old new end → Puts (word w ∷ []) o old new end
+puts_word {w} p = record { spelling = w; spells = spelled_alone (word w) w refl; stands = p }
+
+-- ---- digits
 
 tenth : {x : ℕ} (k : ℕ) → 10 ≤ x → x < 10 ^ k → (1 < k) × (x / 10 < 10 ^ (k - 1))
 tenth zero h low = absurd (omega (arith, pow-zero 10))
@@ -63,20 +69,21 @@ tenth (suc (suc k)) h low = (omega arith, omega (arith, pow-suc 10 (suc k), ap (
 pub room_tenth : {x o : ℕ} {old : List ℕ} → 10 ≤ x → Room (number x ∷ []) o old → Room (number (x / 10) ∷ []) o old
 room_tenth h r = let low = tenth r.places h r.low.0 in record { places = r.places - 1; some = omega arith; low = (low.1, tt); inside = omega (arith, r.inside) }
 
--- ---- numbers
+pub puts_digit : {x o end : ℕ} {old new : List ℕ} → x < 10 → PutsBytes (glyph x ∷ []) o old new end → Puts (number x ∷ []) o old new end
+puts_digit {x} low p = record { spelling = glyph x ∷ []; spells = spelled_alone (number x) (glyph x ∷ []) (one_digit x low); stands = p }
 
--- What the library prints of a number is its decimal.
-decimal_is : (x : ℕ) → x < 2 ^ 64 → Decimal x (decimal x)
-decimal_is = decimal_by_steps Decimal one_digit (λ n ds. next_digit n)
+-- After the other digits, of a tenth or of less, there is room for the last.
+pub last_inside : {x y o mid : ℕ} {old between : List ℕ} → 10 ≤ x → y ≤ x / 10 → Room (number x ∷ []) o old → Puts (number y ∷ []) o old between mid → mid < length between
+last_inside {y = y} h less r p =
+    let low = tenth r.places h r.low.0 in
+    omega (arith, p.stands.ends, puts_length p, r.inside, spells_short (r.places - 1) (number y ∷ []) p.spelling (omega arith) (omega (arith, low.1), tt) p.spells)
 
--- Its digits as a word.
-module _ {x : ℕ} {digits : List ℕ} (low : x < 2 ^ 64) where
-  pub room_digits : length digits ≤ length (decimal x) → {o : ℕ} {old : List ℕ} → Room (number x ∷ []) o old → Room (word digits ∷ []) o old
-  room_digits short r = record { places = r.places; some = r.some; low = tt; inside = omega (arith, length-decimal-le r.places x r.some r.low.0 low, r.inside) }
-
-  pub puts_digits : digits ≡ decimal x → {o end : ℕ} {old new : List ℕ} → Puts (word digits ∷ []) o old new end → Puts (number x ∷ []) o old new end
-  puts_digits e p = record {
-    spelling = p.spelling;
-    spells = spelled_alone (number x) p.spelling (rw (one_spelling (word digits ∷ []) p.spells (spelled_alone (word digits) digits refl), e) (decimal_is x low));
-    stands = p.stands;
-  }
+pub puts_last : {x y o mid end : ℕ} {old between new : List ℕ} → 10 ≤ x → y ≡ x / 10 → Puts (number y ∷ []) o old between mid → PutsBytes (glyph (x % 10) ∷ []) mid between new end → Puts (number x ∷ []) o old new end
+puts_last {x} h tenth p q = record {
+  spelling = p.spelling ++ (glyph (x % 10) ∷ []);
+  spells = spelled_alone (number x) (p.spelling ++ (glyph (x % 10) ∷ [])) (rw whole (next_digit x h (subst (λ (z : ℕ). Decimal z p.spells.head) tenth p.spells.spelled)));
+  stands = bytes-append p.stands q;
+}
+  where
+    whole : p.spelling ≡ p.spells.head
+    whole = p.spells.joined ∙ (rw p.spells.goes_on) ∙ append-nil p.spells.head

@@ -27,3 +27,8 @@ pub record Room (items : List Item) (o : ℕ) (old : List ℕ) : Type 0 where
   pub some : 0 < places
   pub low : Low places items
   pub inside : o + most places items ≤ length old
+
+-- A digit has room at offset o.
+pub record DigitFits (digit : ℕ) (o : ℕ) (old : List ℕ) : Type 0 where
+  pub low : digit < 10
+  pub inside : o < length old

@@ -2,11 +2,34 @@
 #![tactic(auto)]
 
 ghost use Rattle.std.specs.Prelude.{◌≡◌, ◌≤◌, [], ◌∷◌, length};
+ghost use Rattle.lines.specs.Decimal.{glyph};
 ghost use Rattle.lines.specs.Items.{number, numbers};
 ghost use Rattle.lines.specs.Items.{word as a_word};
 ghost use Rattle.lines.specs.Lines.{after, line};
+ghost use Rattle.lines.specs.Put.{PutsBytes};
+ghost use Rattle.lines.specs.Puts.{Room, Puts, DigitFits};
 
-use itoa::Buffer;
+fn put_digit(buffer: &mut [u8], at: usize, digit: u64) -> usize
+    requires { DigitFits digit at buffer.old }
+    ensures { PutsBytes (glyph digit ∷ []) at buffer.old buffer.new result }
+{
+    buffer[at] = b'0' + digit as u8;
+    at + 1
+}
+
+// Digits from an offset on; answers the offset after the last.
+// By hand: a crate for them would be one more to believe. Of the bare buffer: through a text's `&mut self` a number takes a fifth longer.
+#[tactic(auto, using(crate::proofs::Putting::puts_digit))]
+fn put_digits(buffer: &mut [u8], at: usize, x: u64) -> usize
+    requires { Room (number x ∷ []) at buffer.old }
+    ensures { Puts (number x ∷ []) at buffer.old buffer.new result }
+{
+    if x < 10 {
+        return put_digit(buffer, at, x);
+    }
+    let end = put_digits(buffer, at, x / 10);
+    put_digit(buffer, end, x % 10)
+}
 
 // A lent buffer, and where the text in it ends.
 // By hand: methods and no `write!`, which may fail by the contract of `fmt::Write`, and that does not say when.
@@ -26,7 +49,17 @@ impl<'a> Text<'a> {
         ensures same_bytes { result.buffer.now ≡ buffer.old }
         ensures empty { result.end ≡ 0 }
     {
-        Text { buffer, end: 0 }
+        Text::at(buffer, 0)
+    }
+
+    // What stands in the buffer up to `end`, to be written on from there.
+    pub fn at(buffer: &'a mut [u8], end: usize) -> Text<'a>
+        requires { end ≤ length buffer.old }
+        ensures same_buffer { result.buffer.ghost_name ≡ buffer.entry.ghost_name }
+        ensures same_bytes { result.buffer.now ≡ buffer.old }
+        ensures end { result.end ≡ end }
+    {
+        Text { buffer, end }
     }
 
     // Where the text ends.
@@ -50,10 +83,8 @@ impl<'a> Text<'a> {
         requires { Fits (after (number x ∷ [])) self.old }
         ensures { Writes (after (number x ∷ [])) self.old self.new }
     {
-        let mut buffer = Buffer::new();
-        let digits = buffer.format(x).as_bytes();
         self.word(b" ");
-        self.word(digits);
+        self.end = put_digits(self.buffer, self.end, x);
     }
 
     // The entries of a ring, each after a blank.

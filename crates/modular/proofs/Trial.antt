@@ -6,7 +6,7 @@ use mathlib.Core.Logic.{◌≢◌, ◌⊎◌, inl, inr, ⊎_elim}
 use mathlib.Core.Bool.{true, false, false≢true}
 use native.Mathlib.Omega.{arith}
 use native.Mathlib.Decide.{dec_lt, ℕ_discrete}
-use native.Mathlib.Nat.{dvd_trans, mod-eq-zero_of_dvd, dvd_of_mod-eq-zero, mod-zero, le_of_dvd, mul-le-mul, mul-le-mul_left, mul-mod_right, div-add-mod', lt_of_mul-lt-mul_right}
+use native.Mathlib.Nat.{div-lt_iff_lt-mul, dvd_trans, mod-eq-zero_of_dvd, dvd_of_mod-eq-zero, mod-zero, le_of_dvd, mul-le-mul_left, mul-mod_right, div-add-mod', lt_of_mul-lt-mul_right}
 use Rattle.modular.specs.Prime.{Prime, TellsPrime}
 
 -- Nothing from 2 to below d divides p.
@@ -25,12 +25,15 @@ free_next p d odd o free at-d k a b e = elim (dec_lt k d) [
   ]
 ]
 
--- A divisor up to the square root is below p, and past the root its square is above p.
-pub below_root : (p d r : ℕ) → 3 ≤ d → d ≤ r → r * r ≤ p → d < p
-below_root p d r h l s = omega (arith, mul-le-mul {n₁ = 3} {m₁ = d} {n₂ = r} {m₂ = r} (omega arith) l)
+-- Where the quotient by d is below d, p is below the square of d; where it times d is p, d divides p, and else not.
+pub past_quotient : (p d : ℕ) → 0 < d → p / d < d → p < d * d
+past_quotient p d h l = (div-lt_iff_lt-mul {k = d} {x = p} {y = d} h).0 l
 
-pub past_root : (p d r : ℕ) → p < (r + 1) * (r + 1) → r < d → p < d * d
-past_root p d r s l = let h : r + 1 ≤ d = omega arith in omega (arith, mul-le-mul h h)
+pub divides : (p d : ℕ) → p / d * d ≡ p → p % d ≡ 0
+divides p d e = omega (arith, e, div-add-mod' p d)
+
+pub divides_not : (p d : ℕ) → p / d * d ≢ p → p % d ≢ 0
+divides_not p d n e = n (omega (arith, e, div-add-mod' p d))
 
 module _ (p d : ℕ) (two : 2 ≤ p) (l : p < d * d) (free : Free p d) where
   -- k divides p, and q is the other factor.

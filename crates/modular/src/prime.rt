@@ -1,5 +1,8 @@
 ghost use Rattle.modular.specs.Prime.{TellsPrime};
 
+// No number of 32 bits reaches its square.
+const ROOT: u32 = 0x1_0000;
+
 // Whether p is a prime, by trial division.
 pub fn is_prime(p: u32) -> bool
     ensures { TellsPrime p result }
@@ -10,10 +13,15 @@ pub fn is_prime(p: u32) -> bool
     if p % 2 == 0 {
         return p == 2;
     }
-    for d in (3..=p.isqrt()).step_by(2) {
-        if p % d == 0 {
+    let mut q = p / 3;
+    for d in (3..ROOT).step_by(2) {
+        if q < d {
+            return true;
+        }
+        if q * d == p {
             return false;
         }
+        q = p / (d + 2);
     }
     true
 }

@@ -1,4 +1,4 @@
--- A number of two bytes, written out, and a number in a part of the bytes. Assumes nothing.
+-- Numbers of two and of four bytes, written out, and a number in a part of the bytes. Assumes nothing.
 use Prim.Native.Nat.{ℕ, zero, suc, ◌+◌, ◌*◌, ◌≤◌}
 use mathlib.Core.Path.{◌≡◌, refl}
 use mathlib.Core.List.{List}
@@ -12,6 +12,10 @@ use Rattle.octets.specs.Numbers.{big_endian}
 pub two_bytes : (s : List ℕ) (o : ℕ) → big_endian 2 s o ≡ at s o * 256 + at s (o + 1)
 unfolding big_endian
 two_bytes s o = rw (add-zero o) (omega arith)
+
+pub four_bytes : (s : List ℕ) (o : ℕ) → big_endian 4 s o ≡ ((at s o * 256 + at s (o + 1)) * 256 + at s (o + 2)) * 256 + at s (o + 3)
+unfolding big_endian
+four_bytes s o = rw (add-zero o) (omega arith)
 
 -- A number is the same in a part that holds it.
 pub in_part : (width n : ℕ) (s : List ℕ) (o : ℕ) → width ≤ n → big_endian width (take n (drop o s)) 0 ≡ big_endian width s o

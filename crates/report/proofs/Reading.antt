@@ -1,16 +1,18 @@
 -- What is known of a sheet that was read: its parts lie in it, and are no longer than the rooms. A refusal is the text of the sheet that gets it.
 -- Assumes nothing.
 use Rattle.std.specs.Prelude.{Some, Result, Ok, Err}
-use Prim.Native.Nat.{ℕ, ◌+◌, ◌≤◌}
+use Prim.Native.Nat.{ℕ, ◌+◌, ◌/◌, ◌≤◌}
 use mathlib.Core.Path.{◌≡◌, refl, sym, ◌∙◌}
 use mathlib.Core.List.{List}
 use native.Mathlib.Omega.{arith}
-use lib.ListN.{length}
-use Rattle.limits.specs.Limits.{most_factor_bytes, most_entry_bytes}
+use lib.ListN.{length, take}
+use lib.Seq.{length-take-le}
+use Rattle.limits.specs.Limits.{factor_bytes, entry_bytes, most_factor_bytes, most_entry_bytes}
 use Rattle.answer.specs.declared.Refusal.{Refusal}
 use Rattle.fields.specs.Fields.{bytes_of}
 use Rattle.fields.specs.declared.Part.{Part}
 use Rattle.lines.specs.Puts.{Puts}
+use Rattle.sheet.specs.Entries.{HoldsNumbers}
 use Rattle.sheet.specs.Sheets.{sheet_of}
 use Rattle.sheet.specs.declared.Sheet.{Sheet}
 use Rattle.sheet.proofs.Parts.{Inside, SizedSheet, sheet_inside, sheet_sized}
@@ -18,6 +20,13 @@ use Rattle.page.specs.Outcome.{refused}
 use Rattle.page.specs.Page.{refusal_line}
 use Rattle.page.specs.Report.{text_room, Reports}
 use Rattle.page.proofs.Parts.{part_long}
+
+-- A room cut to what a part holds.
+pub holds_primes : (part room : List ℕ) → length part / factor_bytes ≤ length room → HoldsNumbers part factor_bytes (length (take (length part / factor_bytes) room))
+holds_primes part room h = record { wide = omega arith; whole = omega (arith, length-take-le (length part / factor_bytes) room h) }
+
+pub holds_entries : (part room : List ℕ) → length part / entry_bytes ≤ length room → HoldsNumbers part entry_bytes (length (take (length part / entry_bytes) room))
+holds_entries part room h = record { wide = omega arith; whole = omega (arith, length-take-le (length part / entry_bytes) room h) }
 
 module _ (s : List ℕ) {sheet : Sheet} (read : sheet_of s ≡ Ok sheet) where
   inside : Inside s sheet

@@ -1,7 +1,7 @@
 // Small loops on plain slices that several crates need.
 #![tactic(auto)]
 
-ghost use Rattle.std.specs.Prelude.{◌≡◌, ◌*◌, length};
+ghost use Rattle.std.specs.Prelude.{◌≡◌, ◌++◌, ◌*◌, ◌≤◌, length, drop};
 ghost use Rattle.sums.specs.Table.{at, table};
 ghost use Rattle.ring.specs.Reduce.{reduce};
 ghost use Rattle.slices.specs.Asks.{Reducible, Multipliable};
@@ -13,6 +13,17 @@ pub fn remainders(a: &[u32], divisor: u32, out: &mut [u32])
 {
     for (i, x) in a.iter().enumerate() {
         out[i] = *x % divisor;
+    }
+}
+
+// dst begins with src.
+// By hand: `copy_from_slice` takes src and dst to be any two places, and the library for C would then need memmove from elsewhere.
+pub fn copy(src: &[u32], dst: &mut [u32])
+    requires { length src.now ≤ length dst.old }
+    ensures { dst.new ≡ src.now ++ drop (length src.now) dst.old }
+{
+    for (i, &x) in src.iter().enumerate() {
+        dst[i] = x;
     }
 }
 

@@ -1,7 +1,6 @@
 -- `euclid::constant` meets its contract: c at place 0, and 0 at every other. Assumes nothing.
-use mathlib.Core.Path.{refl}
 use Rattle.euclid.proofs.Arrays.{holds_constant}
 use Rattle.euclid.proofs.constant.Goals as goal
 
 pub returns : goal.returns
-returns c = holds_constant 1026 c.args.c refl
+returns c = holds_constant c.args.c c.requires

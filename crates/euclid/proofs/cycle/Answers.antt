@@ -3,4 +3,4 @@ use Rattle.euclid.proofs.Arrays.{holds_cycle}
 use Rattle.euclid.proofs.cycle.Goals as goal
 
 pub returns : goal.returns
-returns c = holds_cycle c.args.m.two c.requires c.constant-a.ensures
+returns c = holds_cycle c.args.m.two c.requires.0 c.constant.ensures

@@ -4,4 +4,4 @@ use Rattle.euclid.proofs.Arrays.{holds_zeros, holds_remainders}
 use Rattle.euclid.proofs.pattern.Goals as goal
 
 pub returns : goal.returns
-returns c = rw c.remainders.ensures (holds_remainders c.args.m.value c.args.f.now (omega (arith, c.requires.most)) (holds_zeros c.constant-a.ensures))
+returns c = rw c.remainders.ensures (holds_remainders c.args.m.value c.args.f.now (omega (arith, c.requires.0.most)) (holds_zeros c.requires.1))

@@ -3,4 +3,4 @@ use Rattle.feeding.proofs.Unmixing.{counts_told}
 use Rattle.feeding.proofs.unmix_legal.Goals as goal
 
 pub returns : goal.returns
-returns c = counts_told c.requires c.in_ok-invert_legal.ensures c.convolve.ensures
+returns c = counts_told c.requires c.in_ok-invert_legal.ensures c.counts_behind.ensures

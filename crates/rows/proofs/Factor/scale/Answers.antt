@@ -1,7 +1,6 @@
 -- The goals of `rows::Factor::scale` that the search leaves.
 use Prim.Native.Nat.{ℕ, ◌*◌, ◌%◌}
 use mathlib.Core.Path.{◌≡◌, ap, ◌∙◌}
-use native.Mathlib.Nat.{zero-add}
 use lib.ListN.{length}
 use Rattle.sums.proofs.Fill.{fill_none, fill_all, fill_read, fill_store}
 use Rattle.rows.specs.Row.{terms}
@@ -20,7 +19,7 @@ pub loop-y-preserved : goal.loop-y-preserved
 loop-y-preserved c =
     let v = c.loop-y in
     let x = fill_read _ c.args.row.now v.y-index (omega arith) v.invariant in
-    fill_store _ c.args.row.now v.y-index (omega arith) v.invariant (c.plus_multiple.ensures ∙ ap (λ (z : ℕ). z % c.args.self.modulus) (zero-add _ ∙ ap (λ (z : ℕ). c.args.self.value * z) x))
+    fill_store _ c.args.row.now v.y-index (omega arith) v.invariant (c.plus_multiple.ensures ∙ ap (λ (z : ℕ). z % c.args.self.modulus) (omega (arith, ap (λ (z : ℕ). c.args.self.value * z) x)))
 
 pub returns : goal.returns
 unfolding terms
