@@ -6,7 +6,7 @@ use mathlib.Core.Logic.{◌≢◌, ◌⊎◌, inl, inr, ⊎_elim}
 use mathlib.Core.Bool.{true, false, false≢true}
 use native.Mathlib.Omega.{arith}
 use native.Mathlib.Decide.{dec_lt, ℕ_discrete}
-use native.Mathlib.Nat.{div-lt_iff_lt-mul, dvd_trans, mod-eq-zero_of_dvd, dvd_of_mod-eq-zero, mod-zero, le_of_dvd, mul-le-mul_left, mul-mod_right, div-add-mod', lt_of_mul-lt-mul_right}
+use native.Mathlib.Nat.{div-lt_iff_lt-mul, le-div_iff_mul-le, dvd_trans, mod-eq-zero_of_dvd, dvd_of_mod-eq-zero, mod-zero, le_of_dvd, mul-le-mul_left, mul-le-mul_right, mul-mod_right, div-add-mod', lt_of_mul-lt-mul_right}
 use Rattle.modular.specs.Prime.{Prime, TellsPrime}
 
 -- Nothing from 2 to below d divides p.
@@ -24,6 +24,10 @@ free_next p d odd o free at-d k a b e = elim (dec_lt k d) [
     | no s ↦ odd (mod-eq-zero_of_dvd 2 (dvd_trans 2 (dvd_of_mod-eq-zero 2 (omega arith)) (dvd_of_mod-eq-zero k e)))
   ]
 ]
+
+-- A divisor that is tried is at most a third of p.
+pub tried_low : (p d : ℕ) → 3 ≤ d → d ≤ p / d → 3 * d ≤ p
+tried_low p d h l = omega (arith, (le-div_iff_mul-le {k = d} (omega arith)).0 l, mul-le-mul_right d h)
 
 -- Where the quotient by d is below d, p is below the square of d; where it times d is p, d divides p, and else not.
 pub past_quotient : (p d : ℕ) → 0 < d → p / d < d → p < d * d

@@ -17,7 +17,7 @@ pub fn remainders(a: &[u32], divisor: u32, out: &mut [u32])
 }
 
 // dst begins with src.
-// By hand: `copy_from_slice` takes src and dst to be any two places, and the library for C would then need memmove from elsewhere.
+// By hand: of `copy_from_slice` in `euclid::over` the compiler makes a memmove, which the library for C would need from elsewhere.
 pub fn copy(src: &[u32], dst: &mut [u32])
     requires { length src.now ≤ length dst.old }
     ensures { dst.new ≡ src.now ++ drop (length src.now) dst.old }

@@ -1,8 +1,6 @@
 -- The goals of `slices::copy` that the search leaves.
-use mathlib.Core.Path.{◌≡◌, refl, ◌∙◌}
-use mathlib.Core.List.{List, ◌++◌}
-use lib.ListN.{length, drop}
-use Rattle.sums.specs.Table.{at, table}
+use mathlib.Core.Path.{◌≡◌, refl}
+use lib.ListN.{length}
 use Rattle.sums.proofs.Fill.{fill_none, fill_store}
 use Rattle.sums.proofs.Tables.{table_self}
 use native.Mathlib.Omega.{arith}

@@ -1,8 +1,7 @@
 -- The goals of `modular::prime::is_prime` that the search leaves.
-use Prim.Native.Nat.{◌/◌}
 use mathlib.Core.Path.{refl, sym, subst}
 use Rattle.modular.specs.Prime.{Prime}
-use Rattle.modular.proofs.Trial.{free_next, free_prime, composite, divides, divides_not, past_quotient, two_prime, tells_prime, tells_none}
+use Rattle.modular.proofs.Trial.{free_next, free_prime, composite, divides, divides_not, past_quotient, tried_low, two_prime, tells_prime, tells_none}
 use native.Mathlib.Decide.{ℕ_discrete}
 use native.Mathlib.Nat.{mul-le-mul}
 use borrow.Author.Tests.{eqb-true, eq-eqb}
@@ -28,7 +27,7 @@ pub returns-then-q-d-2 : goal.returns-then-q-d-2
 returns-then-q-d-2 c =
     let v = c.loop-d.invariant in
     let d = c.loop-d.d in
-    tells_none (composite c.args.p d (omega arith) (omega (arith, v.2, mul-le-mul {n₁ = 2} {m₁ = d} {n₂ = c.args.p / d} {m₂ = d} (omega arith) (omega arith))) (divides c.args.p d (rw v.2 at c.if-q-d-2.true)))
+    tells_none (composite c.args.p d (omega arith) (omega (arith, tried_low c.args.p d (omega arith) (omega (arith, v.2)))) (divides c.args.p d (rw v.2 at c.if-q-d-2.true)))
 
 pub loop-d-preserved : goal.loop-d-preserved
 loop-d-preserved c =
